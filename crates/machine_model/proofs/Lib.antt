@@ -1,0 +1,5 @@
+pub mod Examples
+pub mod Rings
+pub mod Runs
+pub mod Picks
+pub mod Turns

@@ -1,0 +1,11 @@
+pub mod Declarations
+pub mod Kinds
+pub mod Frames
+pub mod Operands
+pub mod Effect
+pub mod LocalStep
+pub mod Shared
+pub mod Operations
+pub mod Machine
+pub mod Ring
+pub mod Shapes

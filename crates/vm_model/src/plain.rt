@@ -1,0 +1,42 @@
+ghost use Rattle.std.specs.Prelude.{◌≡◌};
+
+use crate::program::Program;
+use std::marker::Model;
+
+/// A linked program that was accepted, within the bounds that a machine needs. The reader that makes it says what else holds
+/// of it.
+#[derive(Debug, Drop)]
+pub struct Plain {
+    program: Program,
+}
+
+impl Model for Plain {
+    ghost use Rattle.vm_model.specs.Program.{PlainProgram};
+    ghost use Rattle.vm_model.specs.Plain.{IsLinked};
+
+    ghost Value = { PlainProgram };
+
+    ghost view = { λ s. s.program };
+
+    ghost invariant = { λ s. IsLinked s.program };
+}
+
+impl Plain {
+    ghost use Rattle.vm_model.specs.Plain.{IsLinked};
+
+    /// An accepted program.
+    pub fn of(program: Program) -> Plain
+        requires { IsLinked program }
+        ensures { result ≡ program }
+    {
+        Plain { program }
+    }
+
+    /// The program itself. It takes no memory.
+    pub fn program(&self) -> &Program
+        ensures value { result.now ≡ self.now }
+        ensures linked { IsLinked self.now }
+    {
+        &self.program
+    }
+}
