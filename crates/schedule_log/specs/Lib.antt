@@ -1,0 +1,12 @@
+pub mod Intervals
+pub mod Ordered
+pub mod Foldings
+pub mod FoldingView
+pub mod Logs
+pub mod LogView
+pub mod Parts
+pub mod Spelling
+pub mod Faults
+pub mod Reading
+pub mod Readers
+pub mod Laws
