@@ -1,0 +1,2 @@
+pub mod MachineView
+pub mod Turns

@@ -1,0 +1,46 @@
+-- What a turn answers and leaves.
+use Rattle.std.specs.Prelude.{◌≡◌, ℕ, Bool, false, true, IsTrue, IsSome, List, [], ◌∷◌, ◌++◌, map, Option, Some, None, slice_get, slice_set}
+use Rattle.vm_model.specs.declared.op.Op.{Op}
+use Rattle.vm_model.specs.declared.op.Reply.{Reply}
+use Rattle.vm_model.specs.declared.op.Entry.{Entry}
+use Rattle.vm_model.specs.Program.{PlainProgram}
+use Rattle.machine_model.specs.Frames.{LocalState}
+use Rattle.machine_model.specs.LocalStep.{absorb, settled}
+use Rattle.machine_model.specs.Shared.{is_live}
+use Rattle.machine_model.specs.Machine.{end_of, is_enabled, turn}
+use Rattle.local_machine.specs.LocalView.{LocalView}
+use Rattle.event_machine.specs.MachineView.{MachineView, machine_of, may_turn, shown_end, state_of}
+use Rattle.event_machine.specs.declared.machine.TurnFault.{TurnFault}
+use Rattle.event_machine.specs.declared.machine.TurnFault.TheVariants as fault
+
+-- a turn was made: the machine is the one after it, and this is its event
+pub record Turned (p : PlainProgram) (old : MachineView) (t : ℕ) (e : Entry) (new : MachineView) : Type 0 where
+  pub turned : turn p (machine_of old) t ≡ Some (machine_of new)
+  pub entry : new.world.history ≡ old.world.history ++ e ∷ []
+  pub of_thread : e.thread ≡ t
+  pub budget : new.world.budget ≡ old.world.budget
+
+-- why no turn was made
+abbrev pub Refuses : PlainProgram → MachineView → ℕ → TurnFault → MachineView → Type 0
+Refuses p old t fault.Over new = (old.is_broken ≡ false) × IsSome (end_of p (machine_of old) old.world.budget) × (new ≡ old)
+Refuses p old t fault.NotLive new = (old.is_broken ≡ false) × (end_of p (machine_of old) old.world.budget ≡ None) × (is_live old.world.shared t ≡ false) × (new ≡ old)
+Refuses p old t fault.NotEnabled new =
+    (old.is_broken ≡ false) × (end_of p (machine_of old) old.world.budget ≡ None) × (is_live old.world.shared t ≡ true) × (is_enabled p (machine_of old) t ≡ false) × (new ≡ old)
+Refuses p old t fault.NoMemory new = new.is_broken ≡ true
+
+-- the state of a thread after its operation and the reply, at its next operation
+abbrev pub gone_on : PlainProgram → LocalState → Option Op → Reply → LocalState
+gone_on p l None r = l
+gone_on p l (Some o) r = settled p (absorb p l o r)
+
+abbrev pub GoesOnIn : PlainProgram → Option LocalView → List LocalView → ℕ → Reply → List LocalView → Type 0
+GoesOnIn p None old t r new = ⊥
+GoesOnIn p (Some l) old t r new = map state_of new ≡ slice_set (map state_of old) t (gone_on p l.state l.pending r)
+
+-- that thread went on after the reply, and the others stayed
+abbrev pub GoesOnAt : PlainProgram → List LocalView → ℕ → Reply → List LocalView → Type 0
+GoesOnAt p old t r new = GoesOnIn p (slice_get old t) old t r new
+
+abbrev pub AsksFor : Option LocalView → Op → Type 0
+AsksFor None o = ⊥
+AsksFor (Some l) o = l.pending ≡ Some o

@@ -1,0 +1,10 @@
+//! The machine on one thread: one event after another, each a turn of a thread.
+#![tactic(auto)]
+
+mod machine;
+mod threads;
+
+pub use machine::{Machine, TurnFault};
+
+#[cfg(test)]
+mod tests;

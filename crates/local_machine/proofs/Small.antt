@@ -1,0 +1,17 @@
+-- An instruction of a small program has a small place.
+use Rattle.std.proofs.Common.{◌≡◌, ℕ, ◌<◌, ◌≤◌, ◌^◌, List, [], ◌∷◌, Some, arith}
+use Rattle.std.specs.Prelude.{zero, suc, length, slice_get}
+use Rattle.std.specs.List.{AllByRecursion}
+use Rattle.std.proofs.lemmas.Option.{slice_get_within}
+use Rattle.vm_model.specs.declared.instr.Instr.{Instr}
+use Rattle.vm_model.specs.Program.{PlainProgram, PlainMethod, IsSmall, instr_at, code_at}
+
+small_code : (methods : List PlainMethod) (m at : ℕ) (i : Instr) → AllByRecursion (λ (m : PlainMethod). length m.code ≤ 1048576) methods → code_at (slice_get methods m) at ≡ Some i → at < 2 ^ 31
+small_code [] m at i small e = cc
+small_code (x ∷ xs) zero at i small e =
+    let within : at < length x.code = slice_get_within x.code at i e in
+    omega (arith, small.0)
+small_code (x ∷ xs) (suc m) at i small e = small_code xs m at i small.1 e
+
+pub small_place : (p : PlainProgram) (m at : ℕ) (i : Instr) → IsSmall p → instr_at p m at ≡ Some i → at < 2 ^ 31
+small_place p m at i small e = small_code p.methods m at i small e

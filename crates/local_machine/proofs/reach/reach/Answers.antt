@@ -1,0 +1,98 @@
+use Rattle.std.proofs.Common.{◌≡◌, ◌∷◌, List, length, arith, sym, ap, subst, refl, Some, None}
+use Rattle.std.specs.Prelude.{Option, Result, Ok, Err, OnErr}
+use Rattle.vm_model.specs.declared.memory.NoMemory.{NoMemory}
+use Rattle.local_machine.specs.declared.completion.Ready.{Ready}
+use Rattle.machine_model.specs.Frames as model
+use Rattle.local_machine.specs.declared.phase.Phase.{Phase}
+use Rattle.local_machine.specs.declared.completion.Completion.TheVariants as completion
+use Rattle.vm_model.specs.declared.op.Op.TheVariants as op
+use Rattle.local_machine.specs.Acts.{plain}
+use Rattle.local_machine.specs.Fields.{callers, frames_of}
+use Rattle.local_machine.specs.States.{IsReached, state_of}
+use Rattle.local_machine.specs.Steps.{IsOnTheWay}
+use Rattle.local_machine.proofs.Moved.{length-callers}
+use Rattle.local_machine.proofs.Reached.{reached-plain, reached-stopped, reached-waiting}
+use Rattle.local_machine.proofs.reach.reach.Goals as goal
+
+on_err : {P : Type 0} (r : Result (Option Ready) NoMemory) → P → OnErr r P
+on_err (Ok x) h = tt
+on_err (Err e) h = h
+
+pub returns-in_err-completion-in-Plain-clause-err : goal.returns-in_err-completion-in-Plain-clause-err
+returns-in_err-completion-in-Plain-clause-err c =
+    let p = c.args.program.now in
+    let top = c.args.top.now in
+    let below = c.args.below.now.items in
+    let top' = c.settle.new.top in
+    let old = model.Running (frames_of top below) model.Plain in
+    let way = subst (λ (fs : List model.Frame). IsOnTheWay p old c.args.steps.now (model.Running (plain top' ∷ fs) model.Plain) c.settle.new.steps) (sym c.in_err-completion-in-Plain.ensures.below) c.in_ok-acted-in-Plain.ensures.ok.way in
+    let there = subst (λ (ph : Phase). IsOnTheWay p (state_of ph top below) c.args.steps.now (state_of ph top' c.prepare.new.below.items) c.settle.new.steps) (sym c.in-Plain.is) way in
+    on_err c.from_residual-in_err-completion-in-Plain.result there
+
+pub returns-in_ok-completion-in-Plain-clause-ok : goal.returns-in_ok-completion-in-Plain-clause-ok
+returns-in_ok-completion-in-Plain-clause-ok c =
+    let p = c.args.program.now in
+    let top = c.args.top.now in
+    let below = c.args.below.now.items in
+    let top' = c.settle.new.top in
+    let mid = c.settle.new.below.items in
+    let below' = c.prepare.new.below.items in
+    let steps = c.args.steps.now in
+    let s = c.settle.new.steps in
+    let a = c.in_ok-acted-in-Plain.acted in
+    let r : Ready = record { op = c.wanted_by-op.result; completion = c.in_ok-completion-in-Plain.completion } in
+    let long : c.len.result ≡ length (callers mid) = omega (arith, length-callers mid) in
+    let there = reached-plain p (model.Running (frames_of top below) model.Plain) (plain top') (callers mid) (callers below') steps s a r c.len.result c.in_ok-acted-in-Plain.ensures.ok c.in_ok-completion-in-Plain.ensures.below long c.wanted_by-op.ensures c.in_ok-completion-in-Plain.ensures.value in
+    subst (λ (ph : Phase). IsReached p (state_of ph top below) steps (state_of ph top' below') s (Some r)) (sym c.in-Plain.is) there
+
+pub returns-in_ok-completion-in-Waiting-clause-ok : goal.returns-in_ok-completion-in-Waiting-clause-ok
+returns-in_ok-completion-in-Waiting-clause-ok c =
+    let p = c.args.program.now in
+    let top = c.args.top.now in
+    let below = c.args.below.now.items in
+    let top' = c.look.new.top in
+    let below' = c.prepare-in-Waiting.new.below.items in
+    let steps = c.args.steps.now in
+    let a = c.in_ok-acted-in-Waiting.acted in
+    let r : Ready = record { op = Some (op.Resume c.in-Waiting.lock c.in-Waiting.count); completion = c.in_ok-completion-in-Waiting.completion } in
+    let there = reached-waiting p (plain top) (plain top') (callers below) (callers below') c.in-Waiting.lock c.in-Waiting.count steps a r c.in_ok-acted-in-Waiting.ensures.frame c.in_ok-completion-in-Waiting.ensures.below c.in_ok-acted-in-Waiting.ensures.acted refl c.in_ok-completion-in-Waiting.ensures.value in
+    subst (λ (ph : Phase). IsReached p (state_of ph top below) steps (state_of ph top' below') steps (Some r)) (sym c.in-Waiting.is) there
+
+pub returns-in-Entering-clause-ok : goal.returns-in-Entering-clause-ok
+returns-in-Entering-clause-ok c =
+    let p = c.args.program.now in
+    let top = c.args.top.now in
+    let below = c.args.below.now.items in
+    let steps = c.args.steps.now in
+    let r : Ready = record { op = c.entering-op.result; completion = completion.Begins } in
+    subst (λ (ph : Phase). IsReached p (state_of ph top below) steps (state_of ph top below) steps (Some r)) (sym c.in-Entering.is)
+    (reached-stopped p (model.Running (frames_of top below) model.Entering) steps (Some r) refl (refl, c.entering-op.ensures, refl))
+
+pub returns-in-Left-clause-ok : goal.returns-in-Left-clause-ok
+returns-in-Left-clause-ok c =
+    let p = c.args.program.now in
+    let top = c.args.top.now in
+    let below = c.args.below.now.items in
+    let steps = c.args.steps.now in
+    let r : Ready = record { op = Some op.ThreadEnd; completion = completion.Nothing } in
+    subst (λ (ph : Phase). IsReached p (state_of ph top below) steps (state_of ph top below) steps (Some r)) (sym c.in-Left.is)
+    (reached-stopped p (model.Running (frames_of top below) model.Left) steps (Some r) refl (refl, refl, refl))
+
+pub returns-in-Raised-clause-ok : goal.returns-in-Raised-clause-ok
+returns-in-Raised-clause-ok c =
+    let p = c.args.program.now in
+    let top = c.args.top.now in
+    let below = c.args.below.now.items in
+    let steps = c.args.steps.now in
+    let r : Ready = record { op = Some c.fault_at.result; completion = completion.Nothing } in
+    subst (λ (ph : Phase). IsReached p (state_of ph top below) steps (state_of ph top below) steps (Some r)) (sym c.in-Raised.is)
+    (reached-stopped p (model.Running (frames_of top below) (model.Raised c.in-Raised.kind)) steps (Some r) refl (refl, ap Some c.fault_at.ensures, refl))
+
+pub returns-in-Ended-clause-ok : goal.returns-in-Ended-clause-ok
+returns-in-Ended-clause-ok c =
+    let p = c.args.program.now in
+    let top = c.args.top.now in
+    let below = c.args.below.now.items in
+    let steps = c.args.steps.now in
+    subst (λ (ph : Phase). IsReached p (state_of ph top below) steps (state_of ph top below) steps None) (sym c.in-Ended.is)
+    (reached-stopped p model.Ended steps None refl refl)

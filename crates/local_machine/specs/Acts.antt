@@ -1,0 +1,28 @@
+-- What the code says of an action, and what an action leaves of the frame.
+use Rattle.machine_model.specs.Frames as model
+use Rattle.machine_model.specs.Operands.{Action, Goes, Calls, Gives, Asks, Fails, Undefined}
+use Rattle.local_machine.specs.declared.frame.Frame.{Frame}
+use Rattle.local_machine.specs.declared.acted.Acted.{Acted}
+use Rattle.local_machine.specs.declared.acted.Acted.TheVariants as acted
+
+-- the frame as the definitions see it
+abbrev pub plain : Frame → model.Frame
+plain f = record { method = f.method; place = f.place; locals = f.locals.items; stack = f.stack.values; lock = f.lock }
+
+-- the action without the frame
+abbrev pub acted_of : Action → Acted
+acted_of (Goes g) = acted.Goes
+acted_of (Calls m l) = acted.Calls m l
+acted_of (Gives given) = acted.Gives given
+acted_of (Asks o n) = acted.Asks o n
+acted_of (Fails kind) = acted.Fails kind
+acted_of Undefined = acted.Undefined
+
+-- the frame that a step of the thread alone leaves; every other action leaves the frame as it is
+abbrev pub after : Action → model.Frame → model.Frame
+after (Goes g) f = g
+after (Calls m l) f = f
+after (Gives given) f = f
+after (Asks o n) f = f
+after (Fails kind) f = f
+after Undefined f = f

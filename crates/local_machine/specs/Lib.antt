@@ -1,0 +1,11 @@
+pub mod StackView
+pub mod Families
+pub mod Acts
+pub mod Completions
+pub mod LocalView
+pub mod Fields
+pub mod Returns
+pub mod Steps
+pub mod States
+pub mod Outcomes
+pub mod LocalFields

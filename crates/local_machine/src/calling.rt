@@ -1,0 +1,169 @@
+// Calls, returns, and what the class library does.
+ghost use Rattle.std.specs.Prelude.{◌≡◌, ◌<◌, ◌≤◌, ◌^◌, length, false};
+ghost use Rattle.vm_model.specs.Program.{method_at};
+ghost use Rattle.machine_model.specs.Effect.{effect, calls_on, calls_static, run_method as model_run_method, lock_if as model_lock_if};
+ghost use Rattle.machine_model.specs.Operands.{as_stream, Asks};
+ghost use Rattle.local_machine.specs.Acts.{plain, acted_of, after};
+ghost use Rattle.local_machine.specs.Families.{is_access, is_arithmetic, is_jump, is_moving};
+
+use crate::acted::Acted;
+use crate::frame::Frame;
+use vm_model::{FaultKind, Instr, Lock, ObjRef, Op, Piece, Program, Value};
+
+/// What the instruction does, if it calls or returns, throws, or stands for a method of the class library (JVMS SE 8 §2.11.8).
+/// A step of the thread alone changes the frame; nothing else does.
+pub fn calling(frame: &mut Frame, program: &Program, instr: Instr) -> Acted
+    requires place { frame.old.place < 2 ^ 31 }
+    requires few { length program.now.methods ≤ 1048576 }
+    requires not_moving { is_moving instr ≡ false }
+    requires not_arithmetic { is_arithmetic instr ≡ false }
+    requires no_jump { is_jump instr ≡ false }
+    requires no_access { is_access instr ≡ false }
+    ensures acted { result ≡ acted_of (effect program.now instr (plain frame.old)) }
+    ensures room { frame.old.stack.room ≤ frame.new.stack.room }
+    ensures frame { plain frame.new ≡ after (effect program.now instr (plain frame.old)) (plain frame.old) }
+{
+    let top = frame.stack.peek(0);
+    match instr {
+        Instr::Athrow => match top {
+            Some(Value::Obj { class, .. }) => Acted::Fails(FaultKind::Thrown(class)),
+            Some(Value::Null) => Acted::Fails(FaultKind::NullPointer),
+            _ => Acted::Undefined,
+        },
+        Instr::InvokeStatic(m) => call_static(frame, program, m),
+        Instr::InvokeVirtual(m) | Instr::InvokeSpecial(m) => call_on(frame, program, m),
+        Instr::RunOf(_) => match top {
+            Some(Value::Obj { class, .. }) => {
+                call_on(frame, program, run_method(program, class))
+            }
+            Some(Value::Null) => Acted::Fails(FaultKind::NullPointer),
+            _ => Acted::Undefined,
+        },
+        Instr::Start => match top {
+            Some(Value::Obj { id, class }) => {
+                let target = ObjRef { id, class };
+                Acted::Asks(Op::Start { target }, 1)
+            }
+            Some(Value::Null) => Acted::Fails(FaultKind::NullPointer),
+            _ => Acted::Undefined,
+        },
+        Instr::Join => match top {
+            Some(Value::Obj { id, .. }) => Acted::Asks(Op::Join { obj: id }, 1),
+            Some(Value::Null) => Acted::Fails(FaultKind::NullPointer),
+            _ => Acted::Undefined,
+        },
+        Instr::Yield => Acted::Asks(Op::Yield, 0),
+        Instr::Init { text: true, .. } => match frame.stack.pair() {
+            (Some(Value::Obj { .. }), Some(_)) | (Some(Value::Arr { .. }), Some(_)) => frame.take(
+                2,
+            ),
+            (Some(Value::Null), Some(_)) => Acted::Fails(FaultKind::NullPointer),
+            _ => Acted::Undefined,
+        },
+        Instr::Init { text: false, .. } => match top {
+            Some(Value::Obj { .. }) | Some(Value::Arr { .. }) => frame.take(1),
+            Some(Value::Null) => Acted::Fails(FaultKind::NullPointer),
+            _ => Acted::Undefined,
+        },
+        Instr::InitRunnable => match frame.stack.pair() {
+            (Some(Value::Obj { id, class }), Some(value)) => {
+                let obj = ObjRef { id, class };
+                Acted::Asks(
+                    Op::PutField {
+                        obj,
+                        place: 0,
+                        value,
+                    },
+                    2,
+                )
+            }
+            (Some(Value::Null), Some(_)) => Acted::Fails(FaultKind::NullPointer),
+            _ => Acted::Undefined,
+        },
+        Instr::Println => match top {
+            Some(v) => print(v, Piece::Nothing, true, 1),
+            None => Acted::Undefined,
+        },
+        Instr::PrintInt { newline } => match (frame.stack.peek(1), frame.stack.peek_int(0)) {
+            (Some(v), Some(n)) => print(v, Piece::Int(n), newline, 2),
+            _ => Acted::Undefined,
+        },
+        Instr::PrintText { newline } => match frame.stack.pair() {
+            (Some(v), Some(Value::Text(text))) => print(v, Piece::Text(text), newline, 2),
+            (Some(v), Some(Value::Null)) => print(v, Piece::Null, newline, 2),
+            _ => Acted::Undefined,
+        },
+        Instr::Return => Acted::Gives(None),
+        Instr::Ireturn => match frame.stack.peek_int(0) {
+            Some(n) => Acted::Gives(Some(Value::Int(n))),
+            None => Acted::Undefined,
+        },
+        Instr::Areturn => match top {
+            Some(v) => Acted::Gives(Some(v)),
+            None => Acted::Undefined,
+        },
+        _ => unreachable!(),
+    }
+}
+
+/// A print of this piece on that stream, which takes so many operands.
+fn print(stream: Value, piece: Piece, newline: bool, taken: usize) -> Acted
+    ensures { result ≡ acted_of (as_stream stream (Asks (Op.Print piece newline) taken)) }
+{
+    match stream {
+        Value::Stream => Acted::Asks(Op::Print { piece, newline }, taken),
+        Value::Null => Acted::Fails(FaultKind::NullPointer),
+        _ => Acted::Undefined,
+    }
+}
+
+/// The lock that a synchronized method enters.
+pub fn lock_if(is_synchronized: bool, lock: Lock) -> Option<Lock>
+    ensures { result ≡ model_lock_if is_synchronized lock }
+{
+    if is_synchronized { Some(lock) } else { None }
+}
+
+/// A call of a static method.
+fn call_static(frame: &Frame, program: &Program, method: u32) -> Acted
+    ensures { result ≡ acted_of (calls_static method (method_at program.now method) frame.now.stack.values) }
+{
+    match program.method(method) {
+        Some(m) => {
+            if m.params.len() <= frame.stack.len() {
+                Acted::Calls(method, lock_if(m.is_synchronized, Lock::Class(m.class)))
+            } else {
+                Acted::Undefined
+            }
+        }
+        None => Acted::Undefined,
+    }
+}
+
+/// A call of a method on the object below its arguments.
+fn call_on(frame: &Frame, program: &Program, method: u32) -> Acted
+    ensures { result ≡ acted_of (calls_on method (method_at program.now method) frame.now.stack.values) }
+{
+    match program.method(method) {
+        Some(m) => match frame.stack.peek(m.params.len()) {
+            Some(Value::Obj { id, .. }) => {
+                Acted::Calls(method, lock_if(m.is_synchronized, Lock::Object(id)))
+            }
+            Some(Value::Null) => Acted::Fails(FaultKind::NullPointer),
+            _ => Acted::Undefined,
+        },
+        None => Acted::Undefined,
+    }
+}
+
+/// The number of the `run()V` that an object of this class runs: its own, or that of `Thread`.
+pub fn run_method(program: &Program, class: u32) -> u32
+    requires { length program.now.methods ≤ 1048576 }
+    ensures { result ≡ model_run_method program.now class }
+{
+    let last = program.methods.len().saturating_sub(1) as u32;
+    match program.class(class) {
+        Some(c) => c.run.unwrap_or(last),
+        None => last,
+    }
+}

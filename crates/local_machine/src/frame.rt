@@ -1,0 +1,127 @@
+// A frame, and the ways in which an instruction of the thread alone changes it.
+ghost use Rattle.std.specs.Prelude.{◌≡◌, ◌+◌, ◌<◌, ◌≤◌, ◌^◌, ◌∷◌, length, drop, slice_get, IfOk, OnOk};
+ghost use Rattle.machine_model.specs.Operands.{next, branch, store, on_local, int_in, Goes};
+ghost use Rattle.local_machine.specs.Acts.{plain, acted_of, after};
+ghost use Rattle.local_machine.specs.Fields.{HasRoom};
+
+use crate::acted::Acted;
+use crate::stack::Stack;
+use std::alloc::Global;
+use vm_model::{Lock, NoMemory, Value};
+
+/// One call of a method (JVMS SE 8 §2.6): the number of the method, the place of its next instruction, and the lock that a
+/// synchronized method holds.
+#[derive(Drop)]
+pub struct Frame {
+    pub method: u32,
+    pub place: u32,
+    pub locals: Vec<Value>,
+    pub stack: Stack,
+    pub lock: Option<Lock>,
+}
+
+impl Frame {
+    /// Makes room for an instruction.
+    pub fn reserve(&mut self) -> Result<(), NoMemory>
+        ensures frame { plain self.new ≡ plain self.old }
+        ensures room { OnOk result (HasRoom self.new) }
+    {
+        self.stack.reserve()
+    }
+
+    /// The same frame again, with room for an instruction.
+    pub fn copy(&self, alloc: Global) -> Result<Frame, NoMemory>
+        ensures frame { IfOk result (λ f. plain f ≡ plain self.now) }
+        ensures room { IfOk result HasRoom }
+    {
+        let Ok(locals) = Vec::from_slice(alloc, self.locals.as_slice()) else {
+            return Err(NoMemory);
+        };
+        let mut stack = self.stack.copy(alloc)?;
+        stack.reserve()?;
+        Ok(Frame {
+            method: self.method,
+            place: self.place,
+            locals,
+            stack,
+            lock: self.lock,
+        })
+    }
+
+    /// Takes so many operands, and goes on to the next place.
+    pub fn take(&mut self, taken: usize) -> Acted
+        requires { self.old.place < 2 ^ 31 }
+        ensures acted { result ≡ Acted.Goes }
+        ensures room { self.old.stack.room ≤ self.new.stack.room }
+        ensures frame { plain self.new ≡ next (plain self.old) (drop taken self.old.stack.values) }
+    {
+        self.stack.remove(taken);
+        self.place += 1;
+        Acted::Goes
+    }
+
+    /// Takes so many operands, puts a value on top, and goes on to the next place.
+    pub fn put(&mut self, taken: usize, value: Value) -> Acted
+        requires place { self.old.place < 2 ^ 31 }
+        requires room { length self.old.stack.values < self.old.stack.room }
+        ensures acted { result ≡ Acted.Goes }
+        ensures room { self.old.stack.room ≤ self.new.stack.room }
+        ensures frame { plain self.new ≡ next (plain self.old) (value ∷ drop taken self.old.stack.values) }
+    {
+        self.stack.remove(taken);
+        self.stack.push(value);
+        self.place += 1;
+        Acted::Goes
+    }
+
+    /// Takes so many operands, and goes on to that place where the test holds, else to the next one.
+    pub fn branch(&mut self, taken: usize, holds: bool, to: u32) -> Acted
+        requires { self.old.place < 2 ^ 31 }
+        ensures acted { result ≡ Acted.Goes }
+        ensures room { self.old.stack.room ≤ self.new.stack.room }
+        ensures frame { plain self.new ≡ branch holds (plain self.old) to (drop taken self.old.stack.values) }
+    {
+        self.stack.remove(taken);
+        if holds {
+            self.place = to;
+        } else {
+            self.place += 1;
+        }
+        Acted::Goes
+    }
+
+    /// Takes so many operands, writes a local, and goes on to the next place; undefined where there is no such local.
+    pub fn store(&mut self, taken: usize, local: u32, value: Value) -> Acted
+        requires { self.old.place < 2 ^ 31 }
+        ensures acted { result ≡ acted_of (on_local (slice_get self.old.locals.items local) (λ _. Goes (store (plain self.old) local value (drop taken self.old.stack.values)))) }
+        ensures room { self.old.stack.room ≤ self.new.stack.room }
+        ensures frame { plain self.new ≡ after (on_local (slice_get self.old.locals.items local) (λ _. Goes (store (plain self.old) local value (drop taken self.old.stack.values)))) (plain self.old) }
+    {
+        let local = local as usize;
+        if local < self.locals.len() {
+            self.stack.remove(taken);
+            self.locals[local] = value;
+            self.place += 1;
+            Acted::Goes
+        } else {
+            Acted::Undefined
+        }
+    }
+
+    /// The number in a local, if a number is there.
+    pub fn int_local(&self, local: u32) -> Option<i32>
+        ensures { result ≡ int_in (slice_get self.now.locals.items local) }
+    {
+        match self.locals.get(local as usize) {
+            Some(Value::Int(n)) => Some(*n),
+            _ => None,
+        }
+    }
+
+    /// The value in a local, if there is such a local.
+    pub fn local(&self, local: u32) -> Option<Value>
+        ensures { result ≡ slice_get self.now.locals.items local }
+    {
+        self.locals.get(local as usize).copied()
+    }
+}

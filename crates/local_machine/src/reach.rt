@@ -1,0 +1,165 @@
+// The way to the next operation.
+ghost use Rattle.std.specs.Prelude.{◌≡◌, ◌≤◌, length, IfOk, OnErr, vec_len, vec_capacity};
+ghost use Rattle.vm_model.specs.Program.{IsSmall};
+ghost use Rattle.machine_model.specs.LocalStep.{entering as model_entering, fault_at as model_fault_at};
+ghost use Rattle.local_machine.specs.Acts.{plain};
+ghost use Rattle.local_machine.specs.Completions.{completion_with};
+ghost use Rattle.local_machine.specs.Fields.{AreAtCalls, HasRoomFor, Stands, callers, completion_of};
+ghost use Rattle.local_machine.specs.States.{HasRoomIn, IsReached, state_of, wanted, wanted_call, wanted_return};
+ghost use Rattle.local_machine.specs.Steps.{IsOnTheWay};
+
+use crate::acted::Acted;
+use crate::calls::{arity_at, first_frame, reserve_caller};
+use crate::completion::{Completion, Ready};
+use crate::frame::Frame;
+use crate::phase::Phase;
+use crate::step::{look, settle};
+use std::alloc::Global;
+use vm_model::{FaultKind, Lock, NoMemory, Op, Program};
+
+/// The fault of this kind at the frame's instruction.
+fn fault_at(kind: FaultKind, frame: &Frame) -> Op
+    ensures { result ≡ model_fault_at kind (plain frame.now) }
+{
+    Op::Fault {
+        kind,
+        method: frame.method,
+        at: frame.place,
+    }
+}
+
+/// The operation of a call, which has room for a frame or not.
+fn wanted_by_call(lock: Option<Lock>, frame: &Frame, has_room: bool) -> Op
+    ensures { result ≡ wanted_call lock (plain frame.now) has_room }
+{
+    if !has_room {
+        return fault_at(FaultKind::StackOverflow, frame);
+    }
+    match lock {
+        Some(lock) => Op::Enter { lock },
+        None => Op::Tick,
+    }
+}
+
+/// The operation of a return.
+fn wanted_by_return(lock: Option<Lock>, has_caller: bool) -> Op
+    ensures { result ≡ wanted_return lock has_caller }
+{
+    match lock {
+        Some(lock) => Op::Exit { lock },
+        None => { if has_caller { Op::Tick } else { Op::ThreadEnd } }
+    }
+}
+
+/// The operation of a frame whose instruction does this, with so many frames below it. A step of the thread alone that is left
+/// makes a Tick.
+fn wanted_by(acted: Acted, frame: &Frame, below: usize) -> Option<Op>
+    ensures { result ≡ wanted acted (plain frame.now) below }
+{
+    match acted {
+        Acted::Goes => Some(Op::Tick),
+        Acted::Calls(_, lock) => Some(wanted_by_call(lock, frame, below < 255)),
+        Acted::Gives(_) => Some(wanted_by_return(frame.lock, 0 < below)),
+        Acted::Asks(op, _) => Some(op),
+        Acted::Fails(kind) => Some(fault_at(kind, frame)),
+        Acted::Undefined => None,
+    }
+}
+
+/// What completes an instruction that does this. It makes the room that this takes.
+fn prepare(
+    alloc: Global,
+    program: &Program,
+    acted: Acted,
+    top: &Frame,
+    below: &mut Vec<Frame>,
+) -> Result<Completion, NoMemory>
+    requires { Stands acted top.now }
+    ensures value { IfOk result (λ c. completion_of c ≡ completion_with program.now acted (plain top.now)) }
+    ensures room { IfOk result (λ c. HasRoomFor c top.now below.new.items (vec_len below.new) (vec_capacity below.new)) }
+    ensures below { callers below.new.items ≡ callers below.old.items }
+{
+    match acted {
+        Acted::Goes => Ok(Completion::Nothing),
+        Acted::Calls(method, lock) => {
+            let taken = arity_at(program, method);
+            let arguments = top.stack.arguments(taken);
+            let callee = first_frame(alloc, program, method, arguments, lock)?;
+            let Ok(()) = below.reserve(1) else {
+                return Err(NoMemory);
+            };
+            Ok(Completion::Calls(taken, callee))
+        }
+        Acted::Gives(given) => {
+            reserve_caller(below)?;
+            Ok(Completion::Gives(given))
+        }
+        Acted::Asks(_, taken) => Ok(Completion::Takes(taken)),
+        Acted::Fails(_) => Ok(Completion::Nothing),
+        Acted::Undefined => Ok(Completion::Nothing),
+    }
+}
+
+/// Brings a thread to its next operation, with the room that the reply will need; none where it is ended.
+pub fn reach(
+    alloc: Global,
+    program: &Program,
+    phase: Phase,
+    top: &mut Frame,
+    below: &mut Vec<Frame>,
+    steps: &mut u32,
+) -> Result<Option<Ready>, NoMemory>
+    requires small { IsSmall program.now }
+    requires few { length program.now.methods ≤ 1048576 }
+    requires steps { steps.old ≤ 4096 }
+    requires below { AreAtCalls (callers below.old.items) }
+    ensures ok { IfOk result (λ ready. IsReached program.now (state_of phase top.old below.old.items) steps.old (state_of phase top.new below.new.items) steps.new ready) }
+    ensures room { IfOk result (λ ready. HasRoomIn ready top.new below.new.items (vec_len below.new) (vec_capacity below.new)) }
+    ensures err { OnErr result (IsOnTheWay program.now (state_of phase top.old below.old.items) steps.old (state_of phase top.new below.new.items) steps.new) }
+    ensures steps { steps.new ≤ 4096 }
+    ensures below { AreAtCalls (callers below.new.items) }
+{
+    match phase {
+        Phase::Plain => {
+            let acted = settle(alloc, program, top, below, steps)?;
+            let op = wanted_by(acted, top, below.len());
+            let completion = prepare(alloc, program, acted, top, below)?;
+            Ok(Some(Ready { op, completion }))
+        }
+        Phase::Waiting { lock, count } => {
+            let acted = look(alloc, program, top)?;
+            let op = Some(Op::Resume { lock, count });
+            let completion = prepare(alloc, program, acted, top, below)?;
+            Ok(Some(Ready { op, completion }))
+        }
+        Phase::Entering => {
+            let op = entering(top.lock);
+            Ok(Some(Ready {
+                op,
+                completion: Completion::Begins,
+            }))
+        }
+        Phase::Left => Ok(Some(Ready {
+            op: Some(Op::ThreadEnd),
+            completion: Completion::Nothing,
+        })),
+        Phase::Raised(kind) => {
+            let op = Some(fault_at(kind, top));
+            Ok(Some(Ready {
+                op,
+                completion: Completion::Nothing,
+            }))
+        }
+        Phase::Ended => Ok(None),
+    }
+}
+
+/// The operation of a thread whose first method is synchronized.
+fn entering(lock: Option<Lock>) -> Option<Op>
+    ensures { result ≡ model_entering lock }
+{
+    match lock {
+        Some(lock) => Some(Op::Enter { lock }),
+        None => None,
+    }
+}

@@ -1,0 +1,5 @@
+pub mod Everywhere
+pub mod Keeping
+pub mod Legal
+pub mod Chains
+pub mod Fits
