@@ -1,0 +1,16 @@
+pub mod Tests
+pub mod Supers
+pub mod BuiltIns
+pub mod Taking
+pub mod Operands
+pub mod FirstStage
+pub mod PlainInstructions
+pub mod FirstEvent
+pub mod Agreement
+pub mod Calls
+pub mod Instructions
+pub mod Actions
+pub mod Kept
+pub mod Worlds
+pub mod Machines
+pub mod PlainPrograms

@@ -1,0 +1,5 @@
+use Rattle.shape_laws.proofs.Kept.{has_operation, is_defined}
+use Rattle.shape_laws.proofs.laws.operands_are_found.Goals as goal
+
+pub returns : goal.returns
+returns c = record { action = λ p table f linked shapes fit. is_defined p table f linked shapes fit; operation = λ p table l linked shapes fit open'. has_operation p table l linked shapes fit open' }

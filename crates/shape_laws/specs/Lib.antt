@@ -1,0 +1,4 @@
+pub mod Fitting
+pub mod Linked
+pub mod States
+pub mod Worlds
