@@ -1,0 +1,101 @@
+ghost use Rattle.std.specs.Prelude.{◌≡◌, ◌≤◌, ◌<◌, ℕ, IfOk, IfErr, Some, None, false, take};
+ghost use Rattle.machine_model.specs.Machine.{end_of, run};
+ghost use Rattle.schedule_log.specs.Logs.{events, expansion, IsLawful};
+ghost use Rattle.event_machine.specs.MachineView.{machine_of, IsMachineOf};
+ghost use Rattle.thread_driver.specs.Recordings.{IsRecording};
+ghost use Rattle.thread_driver.specs.Answers.{refusal, Refuses};
+
+use crate::record::Recording;
+use event_machine::{Machine, TurnFault};
+use schedule_log::Log;
+use std::alloc::Global;
+use vm_model::Plain;
+
+/// Why a log was not replayed.
+#[derive(Clone, Copy, Debug, PartialEq, Eq)]
+pub enum ReplayFault {
+    /// The turn of this thread at this clock can't be made; or, without a thread, all turns were made, the clock is their
+    /// number, and the run doesn't end as the log says.
+    Diverged { clock: u64, thread: Option<u32> },
+    NoMemory,
+}
+
+/// What is kept of a run that the log led to.
+fn repeated(
+    alloc: Global,
+    plain: &Plain,
+    machine: &Machine,
+    log: &Log,
+) -> Result<Recording, ReplayFault>
+    requires own { IsMachineOf plain.now machine.now }
+    requires whole { machine.now.is_broken ≡ false }
+    requires budget { machine.now.world.budget ≡ log.now.budget }
+    requires lawful { IsLawful log.now }
+    requires runs { run plain.now (expansion log.now) ≡ Some (machine_of machine.now) }
+    ensures ok { IfOk result (λ r. IsRecording plain.now r.log r.output.items r.end) }
+    ensures log { IfOk result (λ r. r.log ≡ log.now) }
+    ensures err { IfErr result (Refuses plain.now log.now) }
+{
+    let Some(end) = machine.end() else {
+        return Err(at_end(log));
+    };
+    if end.kind() != log.end() {
+        return Err(at_end(log));
+    }
+    let (Ok(output), Ok(copy)) = (
+        Vec::from_slice(alloc, machine.world().output()),
+        log.copy(alloc),
+    ) else {
+        return Err(ReplayFault::NoMemory);
+    };
+    Ok(Recording {
+        log: copy,
+        output,
+        end,
+    })
+}
+
+fn at_end(log: &Log) -> ReplayFault
+    ensures { result ≡ ReplayFault.Diverged (events log.now) None }
+{
+    ReplayFault::Diverged {
+        clock: log.events(),
+        thread: None,
+    }
+}
+
+/// Why the log isn't replayed, where a turn of it isn't made.
+fn refusal(fault: TurnFault, clock: u64, thread: u32) -> ReplayFault
+    ensures { result ≡ refusal fault clock thread }
+{
+    match fault {
+        TurnFault::Over | TurnFault::NotLive | TurnFault::NotEnabled => ReplayFault::Diverged {
+            clock,
+            thread: Some(thread),
+        },
+        TurnFault::NoMemory => ReplayFault::NoMemory,
+    }
+}
+
+/// The run that the log tells, event by event: it repeats that run's events, output and end. `Diverged` comes exactly where
+/// the program doesn't make the log's turns, or ends otherwise.
+pub fn replay_still(alloc: Global, plain: &Plain, log: &Log) -> Result<Recording, ReplayFault>
+    ensures ok { IfOk result (λ r. IsRecording plain.now r.log r.output.items r.end) }
+    ensures log { IfOk result (λ r. r.log ≡ log.now) }
+    ensures err { IfErr result (Refuses plain.now log.now) }
+{
+    let Ok(threads) = log.expand(alloc) else {
+        return Err(ReplayFault::NoMemory);
+    };
+    let Ok(mut machine) = Machine::new(alloc, plain, log.budget()) else {
+        return Err(ReplayFault::NoMemory);
+    };
+    for clock in 0..threads.len() {
+        let thread = threads[clock];
+        match machine.turn(alloc, plain, thread) {
+            Ok(_) => {}
+            Err(fault) => return Err(refusal(fault, clock as u64, thread)),
+        }
+    }
+    repeated(alloc, plain, &machine, log)
+}
