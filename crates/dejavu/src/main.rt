@@ -1,0 +1,34 @@
+//! The program: the tool over the folder in which it was started and standard output.
+#![tactic(auto)]
+
+use dejavu_tool::{Status, dejavu};
+use std::alloc::Global;
+use std::env::{self, Env};
+use std::io;
+use std::process::ExitCode;
+use tool_io::{DiskFolder, OutSink};
+
+/// The words behind the program's name. Where one isn't UTF-8 there are none, and those are of no command.
+fn words<R: Env + Alloc<A = Global>>(rt: &R) -> Result<Vec<String>, Status> {
+    match env::args(rt) {
+        Ok(args) => match args.skip(1).collect(rt.alloc()) {
+            Ok(words) => Ok(words),
+            Err(_) => Err(Status::OutOfMemory),
+        },
+        Err(e) if e.kind() == io::ErrorKind::OutOfMemory => Err(Status::OutOfMemory),
+        Err(_) => Ok(Vec::new(rt.alloc())),
+    }
+}
+
+fn main(rt: HostRuntime) -> ExitCode {
+    let status = match words(&rt) {
+        Ok(words) => dejavu(
+            rt.alloc(),
+            &words,
+            &mut DiskFolder::new(&rt),
+            &mut OutSink::new(&rt),
+        ),
+        Err(status) => status,
+    };
+    ExitCode::from(status.number())
+}

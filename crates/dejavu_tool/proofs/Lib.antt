@@ -1,0 +1,5 @@
+pub mod Composing
+pub mod Answering
+pub mod Beginning
+pub mod Completing
+pub mod Repeating

@@ -1,0 +1,68 @@
+-- What a finished recording and a finished replay say, of a folder and a sink that tell what they hold.
+use Rattle.std.specs.Prelude.{◌≡◌, ℕ, List, [], ◌++◌, length, IsTrue, Option, Some}
+use Rattle.tool_io.specs.Outside.{SameFiles, SetsFile}
+use Rattle.vm_model.specs.declared.ends.End.{End}
+use Rattle.vm_model.specs.Ends.{kind_of_end}
+use Rattle.vm_model.specs.Program.{PlainProgram}
+use Rattle.machine_model.specs.Machine.{MachineState, end_of, run}
+use Rattle.machine_model.specs.Ring.{schedule_threads}
+use Rattle.schedule_log.specs.Intervals.{Tiles}
+use Rattle.schedule_log.specs.Logs.{PlainLog, events, expansion}
+use Rattle.schedule_log.specs.Spelling.{Spells}
+use Rattle.report_writer.specs.Texts.{run_text}
+use Rattle.dejavu_tool.specs.declared.status.Status.{Status}
+use Rattle.dejavu_tool.specs.declared.status.Status.TheVariants as status
+use Rattle.dejavu_tool.specs.Accepting.{IsAccepted}
+use Rattle.dejavu_tool.specs.Calls.{FolderCall, SinkCall}
+use Rattle.dejavu_tool.specs.Commands.{Request, Record, Replay}
+
+-- The bytes under LOG spell one log. It tiles the run's events, and its threads lead the accepted program of the text under P
+-- to a machine with an end of the log's kind. What is printed is that run: its numbers of events and intervals, its end and
+-- its output.
+pub record IsRunOfFiles (before logs : List ℕ → Option (List ℕ)) (program log : List ℕ) (printed : List ℕ) : Type 0 where
+  pub text : List ℕ
+  pub loaded : before program ≡ Some text
+  pub of_program : PlainProgram
+  pub accepted : IsAccepted text of_program
+  pub bytes : List ℕ
+  pub kept : logs log ≡ Some bytes
+  pub of_log : PlainLog
+  pub spelled : Spells of_log bytes
+  pub tiled : Tiles (events of_log) of_log.intervals
+  pub machine : MachineState
+  pub runs : run of_program (expansion of_log) ≡ Some machine
+  pub end : End
+  pub ended : end_of of_program machine of_log.budget ≡ Some end
+  pub kind : of_log.end ≡ kind_of_end end
+  pub prints : printed ≡ run_text of_program (events of_log) (length of_log.intervals) end machine.world.output
+
+-- The log that is under LOG afterwards is of the run by the ring without switches, with a budget of 1,048,576 events. No other
+-- file changed.
+pub record IsFinishedRecording (c : FolderCall) (s : SinkCall) (program log : List ℕ) : Type 0 where
+  pub printed : List ℕ
+  pub run : IsRunOfFiles c.before c.after program log printed
+  pub budget : run.of_log.budget ≡ 1048576
+  pub scheduled : expansion run.of_log ≡ schedule_threads run.of_program [] 1048576
+  pub stored : SetsFile c.before c.after log run.bytes
+  pub puts : s.after ≡ s.before ++ printed
+
+-- the log that was under LOG; no file changed
+pub record IsFinishedReplay (c : FolderCall) (s : SinkCall) (program log : List ℕ) : Type 0 where
+  pub printed : List ℕ
+  pub run : IsRunOfFiles c.before c.before program log printed
+  pub untouched : SameFiles c.before c.after
+  pub puts : s.after ≡ s.before ++ printed
+
+abbrev pub RecordingHolds : Request → FolderCall → SinkCall → Status → Type 0
+RecordingHolds (Record program log) c s answer = answer ≡ status.Ok → IsTrue c.told → IsTrue s.told → IsFinishedRecording c s program log
+RecordingHolds _ c s answer = Unit {0}
+
+abbrev pub ReplayHolds : Request → FolderCall → SinkCall → Status → Type 0
+ReplayHolds (Replay program log) c s answer = answer ≡ status.Ok → IsTrue c.told → IsTrue s.told → IsFinishedReplay c s program log
+ReplayHolds _ c s answer = Unit {0}
+
+-- A replay, whatever the names of its files, prints what the recording of its log printed, where the program's text is the same.
+abbrev pub ReplayPrintsRecording : Type 0
+ReplayPrintsRecording = (c d : FolderCall) (s t : SinkCall) (program log other_program other_log : List ℕ)
+    → (recording : IsFinishedRecording c s program log) → (replay : IsFinishedReplay d t other_program other_log)
+    → c.before program ≡ d.before other_program → c.after log ≡ d.before other_log → replay.printed ≡ recording.printed

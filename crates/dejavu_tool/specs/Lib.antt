@@ -1,0 +1,9 @@
+pub mod Statuses
+pub mod Commands
+pub mod Lines
+pub mod Accepting
+pub mod Calls
+pub mod Answers
+pub mod Stages
+pub mod Headline
+pub mod Completeness

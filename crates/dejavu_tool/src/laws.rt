@@ -1,0 +1,8 @@
+//! What follows from the promises of the tool. Each function does nothing: its contract is the law.
+
+ghost use Rattle.dejavu_tool.specs.Headline.{ReplayPrintsRecording};
+
+/// A replay prints what the recording of its log printed, where the program's text is the same.
+pub fn replay_prints_recording()
+    ensures { ReplayPrintsRecording }
+{}

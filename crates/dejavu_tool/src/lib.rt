@@ -1,0 +1,20 @@
+//! The tool: what each command does, over a folder and a sink.
+#![tactic(auto)]
+
+mod halt;
+pub mod laws;
+mod lines;
+mod loading;
+mod programs;
+mod recording;
+mod replaying;
+mod status;
+mod top;
+mod words;
+
+pub use programs::{ProgramFault, accept};
+pub use status::Status;
+pub use top::dejavu;
+
+#[cfg(test)]
+mod tests;

@@ -1,0 +1,43 @@
+ghost use Rattle.std.specs.Prelude.{◌≡◌};
+ghost use Rattle.dejavu_tool.specs.Statuses.{number_of};
+
+/// How a command ended. `main` ends with its number.
+#[derive(Clone, Copy, Debug, PartialEq, Eq)]
+pub enum Status {
+    /// The command did all that it says.
+    Ok,
+    /// The words are of no command.
+    Usage,
+    /// A file isn't there.
+    Absent,
+    /// The program isn't accepted.
+    ProgramRefused,
+    /// The bytes spell no log.
+    LogRefused,
+    /// The log doesn't run, or it ends otherwise than it says.
+    Diverged,
+    /// The folder failed to load a file.
+    ReadFault,
+    /// The folder failed to store a file, or the sink to take what is printed.
+    WriteFault,
+    OutOfMemory,
+}
+
+impl Status {
+    /// The exit status. It takes no memory.
+    pub fn number(&self) -> u8
+        ensures { result ≡ number_of self.now }
+    {
+        match self {
+            Status::Ok => 0,
+            Status::Usage => 2,
+            Status::Absent => 3,
+            Status::ProgramRefused => 4,
+            Status::LogRefused => 5,
+            Status::Diverged => 7,
+            Status::ReadFault => 12,
+            Status::WriteFault => 13,
+            Status::OutOfMemory => 14,
+        }
+    }
+}

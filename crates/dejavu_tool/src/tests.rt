@@ -1,0 +1,373 @@
+ghost use Rattle.std.specs.Prelude.{◌≤◌};
+
+use crate::{ProgramFault, Status, accept, dejavu};
+use std::alloc::Global;
+use std::test::Fail;
+use thread_driver::record_still;
+use tool_io::{Folder, MemoryFolder, MemorySink};
+use vm_model::{End, Name};
+
+/// The sum of 1 to 10 in a static field: 23 events.
+const SUM: &[u8] =
+    b".class public Sum\n.super java/lang/Object\n.field static s I\n.method public static main([Ljava/lang/String;)V\n.limit stack 2\n.limit locals 2\niconst_1\nistore_1\nLoop:\ngetstatic Sum/s I\niload_1\niadd\nputstatic Sum/s I\niinc 1 1\niload_1\nbipush 10\nif_icmple Loop\ngetstatic java/lang/System/out Ljava/io/PrintStream;\ngetstatic Sum/s I\ninvokevirtual java/io/PrintStream/println(I)V\nreturn\n.end method\n";
+
+/// A `main` that only returns: one event.
+const SHORTEST: &[u8] =
+    b".class A\n.super java/lang/Object\n.method public static main([Ljava/lang/String;)V\nreturn\n.end method\n";
+
+const SUM_LOG: &[u8] = b"\x44\x4A\x56\x4C\x01\x80\x80\x40\x01\x01\x00\x16\xF0";
+
+const SHORTEST_LOG: &[u8] = b"\x44\x4A\x56\x4C\x01\x80\x80\x40\x01\x01\x00\x00\xF0";
+
+const SUM_TEXT: &[u8] = b"events 23\nintervals 1\nend done\noutput 3\n55\n";
+
+const SHORTEST_TEXT: &[u8] = b"events 1\nintervals 1\nend done\noutput 0\n";
+
+/// A folder with this program as P, where there is one.
+fn folder_of(alloc: Global, program: Option<&[u8]>, failing: &[u64]) -> Result<MemoryFolder, Fail> {
+    let mut files = Vec::new(alloc);
+    if let Some(program) = program {
+        files.push((Name::of(alloc, b"P")?, Vec::from_slice(alloc, program)?))?;
+    }
+    Ok(MemoryFolder::new(alloc, files, Vec::from_slice(alloc, failing)?)?)
+}
+
+fn words_of(alloc: Global, words: &[&str]) -> Result<Vec<String>, Fail> {
+    let mut all = Vec::new(alloc);
+    for word in words {
+        all.push(String::from_str(alloc, word)?)?;
+    }
+    Ok(all)
+}
+
+/// Whether these words, in the folder, end with the status, print the text and leave the log as L.
+fn gives(
+    alloc: Global,
+    words: &[&str],
+    folder: &mut MemoryFolder,
+    status: Status,
+    text: &[u8],
+    log: Option<&[u8]>,
+) -> Result<bool, Fail> {
+    let words = words_of(alloc, words)?;
+    let mut sink = MemorySink::new(alloc, Vec::new(alloc))?;
+    let answer = dejavu(alloc, &words, folder, &mut sink);
+    Ok(answer == status && sink.taken() == text && folder.file("L") == log)
+}
+
+/// The same of `record P L`.
+fn records(
+    alloc: Global,
+    program: Option<&[u8]>,
+    failing: &[u64],
+    status: Status,
+    text: &[u8],
+    log: Option<&[u8]>,
+) -> Result<bool, Fail> {
+    let mut folder = folder_of(alloc, program, failing)?;
+    gives(alloc, &["record", "P", "L"], &mut folder, status, text, log)
+}
+
+/// The same of `replay P L`, where L has these bytes and the calls of the folder with these numbers fail.
+fn replays(
+    alloc: Global,
+    program: &[u8],
+    log: &[u8],
+    failing: &[u64],
+    status: Status,
+    text: &[u8],
+) -> Result<bool, Fail> {
+    let mut folder = folder_of(alloc, Some(program), failing)?;
+    let _ = folder.store(alloc, "L", log);
+    gives(
+        alloc,
+        &["replay", "P", "L"],
+        &mut folder,
+        status,
+        text,
+        Some(log),
+    )
+}
+
+#[test]
+fn programs_are_recorded(rt: HostRuntime) -> Result<(), Fail> {
+    let alloc = rt.alloc();
+    assert_eq!(rt; SUM_TEXT.len(), 43);
+    assert!(rt; records(alloc, Some(SUM), &[], Status::Ok, SUM_TEXT, Some(SUM_LOG))?);
+    assert!(rt;
+        records(
+            alloc,
+            Some(SHORTEST),
+            &[],
+            Status::Ok,
+            SHORTEST_TEXT,
+            Some(SHORTEST_LOG)
+        )?
+    );
+    Ok(())
+}
+
+#[test]
+fn records_are_refused(rt: HostRuntime) -> Result<(), Fail> {
+    let alloc = rt.alloc();
+    let long = vec![in alloc; 10; 1_048_577]?;
+    let none = b"program refused: not yet line 0\n";
+    assert!(rt; records(alloc, Some(b""), &[], Status::ProgramRefused, none, None)?);
+    assert!(rt; records(alloc, Some(&long), &[], Status::ProgramRefused, none, None)?);
+    assert!(rt; records(alloc, None, &[], Status::Absent, b"absent P\n", None)?);
+    assert!(rt;
+        records(
+            alloc,
+            Some(SUM),
+            &[0],
+            Status::ReadFault,
+            b"read fault P\n",
+            None
+        )?
+    );
+    assert!(rt; records(alloc, Some(SUM), &[1], Status::WriteFault, b"", None)?);
+    assert!(rt;
+        matches!(
+            accept(alloc, b".class A\nidiv\n"),
+            Err(ProgramFault::NotYet { line: 2 })
+        )
+    );
+    assert!(rt; accept(alloc, SUM).is_ok());
+    Ok(())
+}
+
+#[test]
+fn words_of_no_command(rt: HostRuntime) -> Result<(), Fail> {
+    let alloc = rt.alloc();
+    let mut folder = folder_of(alloc, Some(SUM), &[])?;
+    let usage = b"usage\n";
+    assert_eq!(rt; Status::Usage.number(), 2);
+    assert!(rt; gives(alloc, &[], &mut folder, Status::Usage, usage, None)?);
+    assert!(rt; gives(alloc, &["record"], &mut folder, Status::Usage, usage, None)?);
+    assert!(rt;
+        gives(
+            alloc,
+            &["record", "P"],
+            &mut folder,
+            Status::Usage,
+            usage,
+            None
+        )?
+    );
+    assert!(rt;
+        gives(
+            alloc,
+            &["record", "P", "L", "M"],
+            &mut folder,
+            Status::Usage,
+            usage,
+            None
+        )?
+    );
+    assert!(rt;
+        gives(
+            alloc,
+            &["Record", "P", "L"],
+            &mut folder,
+            Status::Usage,
+            usage,
+            None
+        )?
+    );
+    assert!(rt;
+        gives(
+            alloc,
+            &["check", "P", "L"],
+            &mut folder,
+            Status::Usage,
+            usage,
+            None
+        )?
+    );
+    Ok(())
+}
+
+#[test]
+fn puts_that_fail(rt: HostRuntime) -> Result<(), Fail> {
+    let alloc = rt.alloc();
+    let mut folder = folder_of(alloc, Some(SUM), &[])?;
+    let mut sink = MemorySink::new(alloc, Vec::from_slice(alloc, &[0, 1])?)?;
+    let none = words_of(alloc, &[])?;
+    assert!(rt; dejavu(alloc, &none, &mut folder, &mut sink) == Status::WriteFault);
+    assert!(rt; folder.file("L").is_none());
+    let words = words_of(alloc, &["record", "P", "L"])?;
+    assert!(rt; dejavu(alloc, &words, &mut folder, &mut sink) == Status::WriteFault);
+    assert!(rt; sink.taken().is_empty());
+    assert!(rt; folder.file("L") == Some(SUM_LOG));
+    Ok(())
+}
+
+#[test]
+fn logs_are_replayed(rt: HostRuntime) -> Result<(), Fail> {
+    let alloc = rt.alloc();
+    assert!(rt; replays(alloc, SUM, SUM_LOG, &[], Status::Ok, SUM_TEXT)?);
+    assert!(rt;
+        replays(
+            alloc,
+            SHORTEST,
+            SHORTEST_LOG,
+            &[],
+            Status::Ok,
+            SHORTEST_TEXT
+        )?
+    );
+    assert!(rt;
+        replays(
+            alloc,
+            SUM,
+            b"\x44\x4A\x56\x4C\x01\x80\x80\x40\x01\x01\x00\x17\xF0",
+            &[],
+            Status::Diverged,
+            b"diverged at 23 thread 0\n"
+        )?
+    );
+    assert!(rt;
+        replays(
+            alloc,
+            SUM,
+            b"\x44\x4A\x56\x4C\x01\x80\x80\x40\x01\x01\x00\x15\xF0",
+            &[],
+            Status::Diverged,
+            b"diverged at 22 at the end\n"
+        )?
+    );
+    assert!(rt;
+        replays(
+            alloc,
+            SHORTEST,
+            b"\x44\x4A\x56\x4C\x01\x80\x80\x40\x01\x01\x00\x00\xF2",
+            &[],
+            Status::Diverged,
+            b"diverged at 1 at the end\n"
+        )?
+    );
+    assert!(rt;
+        replays(
+            alloc,
+            SUM,
+            b"\x44\x4A\x56\x4C\x01\x80\x80\x40\x02\x01\x00\x00\x01\x01\x00\xF0",
+            &[],
+            Status::Diverged,
+            b"diverged at 1 thread 1\n"
+        )?
+    );
+    Ok(())
+}
+
+#[test]
+fn replays_are_refused(rt: HostRuntime) -> Result<(), Fail> {
+    let alloc = rt.alloc();
+    assert!(rt;
+        replays(
+            alloc,
+            SUM,
+            b"\x44\x4A\x56\x4C\x01\x80\x80\x40\x01\x01\x00\x16",
+            &[],
+            Status::LogRefused,
+            b"log refused: 3 at 12\n"
+        )?
+    );
+    assert!(rt;
+        replays(
+            alloc,
+            SUM,
+            b"\x44\x4A\x56\x4C\x01\x80\x80\x40\x01\x01\x00\x16\xF0\x00",
+            &[],
+            Status::LogRefused,
+            b"log refused: 9 at 13\n"
+        )?
+    );
+    assert!(rt;
+        replays(
+            alloc,
+            SUM,
+            b"\x44\x4B",
+            &[],
+            Status::LogRefused,
+            b"log refused: 1 at 1\n"
+        )?
+    );
+    assert!(rt;
+        replays(
+            alloc,
+            b"",
+            b"\x44\x4B",
+            &[],
+            Status::ProgramRefused,
+            b"program refused: not yet line 0\n"
+        )?
+    );
+    assert!(rt;
+        replays(
+            alloc,
+            SUM,
+            SUM_LOG,
+            &[1],
+            Status::ReadFault,
+            b"read fault P\n"
+        )?
+    );
+    assert!(rt;
+        replays(
+            alloc,
+            SUM,
+            SUM_LOG,
+            &[2],
+            Status::ReadFault,
+            b"read fault L\n"
+        )?
+    );
+    let mut folder = folder_of(alloc, Some(SUM), &[])?;
+    assert!(rt;
+        gives(
+            alloc,
+            &["replay", "P", "L"],
+            &mut folder,
+            Status::Absent,
+            b"absent L\n",
+            None
+        )?
+    );
+    Ok(())
+}
+
+/// A `main` that jumps for ever: each 4,096 jumps are followed by an event.
+const TURNING: &[u8] =
+    b".class A\n.super java/lang/Object\n.method public static main([Ljava/lang/String;)V\nLoop:\ngoto Loop\n.end method\n";
+
+/// Whether the run of a program under a budget ends this way, with so many events, and prints these bytes.
+fn ends(
+    alloc: Global,
+    text: &[u8],
+    budget: u64,
+    end: End,
+    events: u64,
+    output: &[u8],
+) -> Result<bool, Fail>
+    requires some { 1 ≤ budget }
+    requires limit { budget ≤ 1048576 }
+{
+    let Ok(plain) = accept(alloc, text) else {
+        return Ok(false);
+    };
+    let Ok(run) = record_still(alloc, &plain, budget) else {
+        return Ok(false);
+    };
+    Ok(run.end == end && run.log.events() == events && run.output.as_slice() == output)
+}
+
+#[test]
+fn budgets(rt: HostRuntime) -> Result<(), Fail> {
+    let alloc = rt.alloc();
+    assert!(rt; ends(alloc, SUM, 23, End::Done, 23, b"55\n")?);
+    assert!(rt; ends(alloc, SUM, 22, End::Spent, 22, b"55\n")?);
+    assert!(rt; ends(alloc, SUM, 21, End::Spent, 21, b"")?);
+    assert!(rt; ends(alloc, SHORTEST, 1, End::Done, 1, b"")?);
+    assert!(rt; ends(alloc, TURNING, 3, End::Spent, 3, b"")?);
+    Ok(())
+}

@@ -1,0 +1,10 @@
+//! The texts that the tool prints.
+#![tactic(auto)]
+
+mod names;
+mod report;
+
+pub use report::{end_text, run_text};
+
+#[cfg(test)]
+mod tests;

@@ -1,0 +1,131 @@
+ghost use Rattle.std.specs.Prelude.{◌≡◌, ◌++◌, List, ℕ, OnOk, decimal, Some, [], slice_get, unwrap_or};
+ghost use Rattle.std.specs.List.{flat_map};
+ghost use Rattle.report_writer.specs.Names.{built_in_names, class_name, descriptor as descriptor_text, method_name, name_of_method, return_descriptor};
+
+use itoa::Buffer;
+use vm_model::{Kind, Method, NoMemory, Program};
+
+/// Adds bytes at the end.
+pub fn put(out: &mut Vec<u8>, bytes: &[u8]) -> Result<(), NoMemory>
+    ensures { OnOk result (out.new.items ≡ out.old.items ++ bytes.now) }
+{
+    out.extend_from_slice(bytes)?;
+    Ok(())
+}
+
+/// Adds a number in decimal.
+pub fn put_number(out: &mut Vec<u8>, n: u64) -> Result<(), NoMemory>
+    ensures { OnOk result (out.new.items ≡ out.old.items ++ decimal n) }
+{
+    let mut buffer = Buffer::new();
+    put(out, buffer.format(n).as_bytes())
+}
+
+/// The name of a built-in class; none where there is no such class.
+fn built_in_name(class: u32) -> &'static [u8]
+    ensures { result.now ≡ unwrap_or (slice_get built_in_names class) [] }
+{
+    match class {
+        0 => b"java/lang/Object",
+        1 => b"java/lang/Thread",
+        2 => b"java/lang/Runnable",
+        3 => b"java/lang/String",
+        4 => b"java/io/PrintStream",
+        5 => b"java/lang/Throwable",
+        6 => b"java/lang/Exception",
+        7 => b"java/lang/RuntimeException",
+        8 => b"java/lang/Error",
+        9 => b"java/lang/ArithmeticException",
+        10 => b"java/lang/NullPointerException",
+        11 => b"java/lang/IndexOutOfBoundsException",
+        12 => b"java/lang/ArrayIndexOutOfBoundsException",
+        13 => b"java/lang/NegativeArraySizeException",
+        14 => b"java/lang/IllegalArgumentException",
+        15 => b"java/lang/IllegalMonitorStateException",
+        16 => b"java/lang/IllegalThreadStateException",
+        17 => b"java/lang/IllegalStateException",
+        18 => b"java/lang/InterruptedException",
+        19 => b"java/lang/VirtualMachineError",
+        20 => b"java/lang/StackOverflowError",
+        21 => b"java/lang/OutOfMemoryError",
+        22 => b"java/lang/AssertionError",
+        _ => &[],
+    }
+}
+
+/// The name of a class of the program.
+fn name_of_class<'a>(program: &'a Program, class: u32) -> &'a [u8]
+    ensures { result.now ≡ class_name program.now class }
+{
+    if class < 32 {
+        return built_in_name(class);
+    }
+    match program.class(class) {
+        Some(class) => class.name.bytes(),
+        None => &[],
+    }
+}
+
+/// Adds the name of a class of the program.
+pub fn put_class(out: &mut Vec<u8>, program: &Program, class: u32) -> Result<(), NoMemory>
+    ensures { OnOk result (out.new.items ≡ out.old.items ++ class_name program.now class) }
+{
+    put(out, name_of_class(program, class))
+}
+
+/// Adds the descriptor of a kind.
+fn put_descriptor(out: &mut Vec<u8>, program: &Program, kind: Kind) -> Result<(), NoMemory>
+    ensures { OnOk result (out.new.items ≡ out.old.items ++ descriptor_text program.now kind) }
+{
+    match kind {
+        Kind::Int => put(out, b"I"),
+        Kind::Null => put(out, b"Ljava/lang/Object;"),
+        Kind::Ref(class) => {
+            put(out, b"L")?;
+            put_class(out, program, class)?;
+            put(out, b";")
+        }
+        Kind::Arr => put(out, b"[I"),
+        Kind::Args => put(out, b"[Ljava/lang/String;"),
+    }
+}
+
+fn put_descriptors(out: &mut Vec<u8>, program: &Program, kinds: &[Kind]) -> Result<(), NoMemory>
+    ensures { OnOk result (out.new.items ≡ out.old.items ++ flat_map (descriptor_text program.now) kinds.now) }
+{
+    for kind in kinds {
+        put_descriptor(out, program, *kind)?;
+    }
+    Ok(())
+}
+
+fn put_return(out: &mut Vec<u8>, program: &Program, gives: Option<Kind>) -> Result<(), NoMemory>
+    ensures { OnOk result (out.new.items ≡ out.old.items ++ return_descriptor program.now gives) }
+{
+    match gives {
+        Some(kind) => put_descriptor(out, program, kind),
+        None => put(out, b"V"),
+    }
+}
+
+fn put_named(out: &mut Vec<u8>, program: &Program, method: &Method) -> Result<(), NoMemory>
+    ensures { OnOk result (out.new.items ≡ out.old.items ++ name_of_method program.now (Some method.now)) }
+{
+    put_class(out, program, method.class)?;
+    put(out, b"/")?;
+    put(out, method.name.bytes())?;
+    put(out, b"(")?;
+    put_descriptors(out, program, &method.params)?;
+    put(out, b")")?;
+    put_return(out, program, method.gives)
+}
+
+/// Adds a method of the program, as its class, its name and its descriptor.
+pub fn put_method(out: &mut Vec<u8>, program: &Program, method: u32) -> Result<(), NoMemory>
+    ensures { OnOk result (out.new.items ≡ out.old.items ++ method_name program.now method) }
+{
+    match program.method(method) {
+        Some(method) => put_named(out, program, method),
+        None => Ok(()),
+    }
+}
