@@ -1,7 +1,7 @@
 -- Which texts are programs.
 use Rattle.std.specs.Prelude.{◌≡◌, ℕ, List, length, nat_lt, if◌then◌else◌, Result, Ok, Err}
 use Rattle.vm_model.specs.Program.{PlainProgram}
-use Rattle.jasmin_reader.specs.Reading.{reading}
+use Rattle.first_stage.specs.Reading.{reading}
 use Rattle.dejavu_tool.specs.declared.programs.ProgramFault.{ProgramFault}
 use Rattle.dejavu_tool.specs.declared.programs.ProgramFault.TheVariants as fault
 

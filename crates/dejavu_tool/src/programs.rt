@@ -3,7 +3,7 @@ ghost use Rattle.machine_model.specs.Machine.{end_of, start_machine};
 ghost use Rattle.vm_model.specs.Plain.{IsPlain};
 ghost use Rattle.dejavu_tool.specs.Accepting.{IsAccepted, Refuses};
 
-use jasmin_reader::{PlainFault, read_plain};
+use first_stage::{PlainFault, read_plain};
 use std::alloc::Global;
 use vm_model::Plain;
 

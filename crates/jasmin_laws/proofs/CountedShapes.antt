@@ -8,11 +8,11 @@ use Rattle.vm_model.specs.declared.value.Kind.TheVariants as kind
 use Rattle.vm_model.specs.Program.{PlainProgram}
 use Rattle.machine_model.specs.Kinds.{chain}
 use Rattle.machine_model.specs.Shapes.{Shape, is_subsumed, StackTakes, LocalTakes, LocalsTake}
-use Rattle.jasmin_reader.specs.declared.line.Line.{Line}
-use Rattle.jasmin_reader.specs.declared.line.Operand.{Operand}
-use Rattle.jasmin_reader.specs.declared.line.Operand.TheVariants.{Int, Stream}
-use Rattle.jasmin_reader.specs.declared.line.Operation.{Operation}
-use Rattle.jasmin_reader.specs.Kept.{operation_in, stack_of, is_stored}
+use Rattle.first_stage.specs.declared.line.Line.{Line}
+use Rattle.first_stage.specs.declared.line.Operand.{Operand}
+use Rattle.first_stage.specs.declared.line.Operand.TheVariants.{Int, Stream}
+use Rattle.first_stage.specs.declared.line.Operation.{Operation}
+use Rattle.first_stage.specs.Kept.{operation_in, stack_of, is_stored}
 
 -- ---- the stack
 

@@ -9,14 +9,14 @@ use Rattle.vm_model.specs.declared.value.Kind.TheVariants as kind
 use Rattle.vm_model.specs.Program.{PlainProgram}
 use Rattle.machine_model.specs.Shapes.{Shape, Flow, Next, Branch, flow}
 use Rattle.machine_model.specs.Shapes.{Jump as JumpFlow}
-use Rattle.jasmin_reader.specs.declared.mnemonic.Jump.{Jump}
-use Rattle.jasmin_reader.specs.declared.mnemonic.Jump.TheVariants as jump
-use Rattle.jasmin_reader.specs.declared.line.Operand.{Operand}
-use Rattle.jasmin_reader.specs.declared.line.Operand.TheVariants.{Int, Stream}
-use Rattle.jasmin_reader.specs.Kept.{begins_with_ints}
-use Rattle.jasmin_reader.specs.Reading.{jump_to}
+use Rattle.first_stage.specs.declared.mnemonic.Jump.{Jump}
+use Rattle.first_stage.specs.declared.mnemonic.Jump.TheVariants as jump
+use Rattle.first_stage.specs.declared.line.Operand.{Operand}
+use Rattle.first_stage.specs.declared.line.Operand.TheVariants.{Int, Stream}
+use Rattle.first_stage.specs.Kept.{begins_with_ints}
+use Rattle.first_stage.specs.Reading.{jump_to}
 use Rattle.vm_model.specs.Plain.{ints_of}
-use Rattle.jasmin_reader.proofs.Formed.{OnInts}
+use Rattle.first_stage.proofs.Formed.{OnInts}
 use Rattle.jasmin_laws.proofs.CountedShapes.{kinds_of}
 
 -- so many ints on a stack

@@ -5,14 +5,14 @@ use Rattle.std.specs.List.{list_any}
 use Rattle.std.proofs.lemmas.List.{length-map}
 use Rattle.vm_model.specs.Program.{PlainProgram}
 use Rattle.vm_model.specs.Plain.{IsPlain}
-use Rattle.jasmin_reader.specs.declared.line.Line.{Line}
-use Rattle.jasmin_reader.specs.Lines.{lines, lengthened, words, words_of_lines}
-use Rattle.jasmin_reader.specs.Forms.{form_of}
-use Rattle.jasmin_reader.specs.Kept.{is_method, survey_of}
-use Rattle.jasmin_reader.specs.Rules.{first_outside}
-use Rattle.jasmin_reader.specs.Reading.{program_of, lines_of, judged, reading}
-use Rattle.jasmin_reader.proofs.Formed.{lines-formed}
-use Rattle.jasmin_reader.proofs.Plainly.{judged-plain}
+use Rattle.first_stage.specs.declared.line.Line.{Line}
+use Rattle.first_stage.specs.Lines.{lines, lengthened, words, words_of_lines}
+use Rattle.first_stage.specs.Forms.{form_of}
+use Rattle.first_stage.specs.Kept.{is_method, survey_of}
+use Rattle.first_stage.specs.Rules.{first_outside}
+use Rattle.first_stage.specs.Reading.{program_of, lines_of, judged, reading}
+use Rattle.first_stage.proofs.Formed.{lines-formed}
+use Rattle.first_stage.proofs.Plainly.{judged-plain}
 
 -- ---- lengths
 

@@ -4,15 +4,15 @@ use Rattle.std.specs.Prelude.{◌==◌, ◌&&◌, ◌||◌, not, is_some, unwrap
 use Rattle.std.specs.List.{list_any}
 use Rattle.std.proofs.lemmas.Bool.{false≢true}
 use Rattle.std.proofs.lemmas.List.Sums.{fold-append}
-use Rattle.jasmin_reader.specs.declared.line.Line.{Line}
-use Rattle.jasmin_reader.specs.declared.line.Line.TheVariants as line
-use Rattle.jasmin_reader.specs.declared.line.Place.{Place}
-use Rattle.jasmin_reader.specs.declared.line.Place.TheVariants as place
-use Rattle.jasmin_reader.specs.declared.line.Operand.{Operand}
-use Rattle.jasmin_reader.specs.declared.line.Operation.{Operation}
-use Rattle.jasmin_reader.specs.Kept.{label_in, operation_in, is_instruction, is_method, is_end, locals_limit_in, stores, stack_behind, next_place, place_behind, next_stack, stack_of, branches, is_stored, next_leaves, leaves_at_last, before_end, first_of, Surveyed}
-use Rattle.jasmin_reader.specs.Rules.{is_inside, is_declaring, keeps_label, keeps_stack, keeps_locals, keeps_operation, is_depth, keeps}
-use Rattle.jasmin_reader.proofs.Keeping.{AllKeep}
+use Rattle.first_stage.specs.declared.line.Line.{Line}
+use Rattle.first_stage.specs.declared.line.Line.TheVariants as line
+use Rattle.first_stage.specs.declared.line.Place.{Place}
+use Rattle.first_stage.specs.declared.line.Place.TheVariants as place
+use Rattle.first_stage.specs.declared.line.Operand.{Operand}
+use Rattle.first_stage.specs.declared.line.Operation.{Operation}
+use Rattle.first_stage.specs.Kept.{label_in, operation_in, is_instruction, is_method, is_end, locals_limit_in, stores, stack_behind, next_place, place_behind, next_stack, stack_of, branches, is_stored, next_leaves, leaves_at_last, before_end, first_of, Surveyed}
+use Rattle.first_stage.specs.Rules.{is_inside, is_declaring, keeps_label, keeps_stack, keeps_locals, keeps_operation, is_depth, keeps}
+use Rattle.first_stage.proofs.Keeping.{AllKeep}
 use Rattle.shape_laws.proofs.Tests.{either, on_left, on_right, both, true_below}
 
 -- ---- one line more

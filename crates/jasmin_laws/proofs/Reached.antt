@@ -5,15 +5,15 @@ use Rattle.std.specs.List.{list_any, cons_option, AllByRecursion}
 use Rattle.std.proofs.lemmas.Bool.{false≢true}
 use Rattle.vm_model.specs.declared.instr.Instr.{Instr}
 use Rattle.machine_model.specs.Shapes.{Shape}
-use Rattle.jasmin_reader.specs.declared.line.Line.{Line}
-use Rattle.jasmin_reader.specs.declared.line.Label.{Label}
-use Rattle.jasmin_reader.specs.declared.line.Operand.{Operand}
-use Rattle.jasmin_reader.specs.declared.line.Operation.{Operation}
-use Rattle.jasmin_reader.specs.Kept.{label_in, operation_in, is_instruction, is_end, stores, next_stack, stack_of, is_stored, before_end, label_at, labels_from, Surveyed, place_of}
-use Rattle.jasmin_reader.specs.Rules.{is_depth, keeps}
-use Rattle.jasmin_reader.specs.Reading.{linked}
-use Rattle.jasmin_reader.proofs.Formed.{IsFormed, IsFormedLine}
-use Rattle.jasmin_reader.proofs.Keeping.{AllKeep}
+use Rattle.first_stage.specs.declared.line.Line.{Line}
+use Rattle.first_stage.specs.declared.line.Label.{Label}
+use Rattle.first_stage.specs.declared.line.Operand.{Operand}
+use Rattle.first_stage.specs.declared.line.Operation.{Operation}
+use Rattle.first_stage.specs.Kept.{label_in, operation_in, is_instruction, is_end, stores, next_stack, stack_of, is_stored, before_end, label_at, labels_from, Surveyed, place_of}
+use Rattle.first_stage.specs.Rules.{is_depth, keeps}
+use Rattle.first_stage.specs.Reading.{linked}
+use Rattle.first_stage.proofs.Formed.{IsFormed, IsFormedLine}
+use Rattle.first_stage.proofs.Keeping.{AllKeep}
 use Rattle.shape_laws.proofs.Tests.{same, either}
 use Rattle.jasmin_laws.proofs.KeptLines.{IsOpen, open_next, depth_next, stack_next, stored_next, stored_more, no_instruction, an_instruction, label_keeps}
 use Rattle.jasmin_laws.proofs.CountedShapes.{shape_behind, shape_if, shapes_from}

@@ -13,21 +13,21 @@ use Rattle.vm_model.specs.Plain.{IsIntStatic}
 use Rattle.vm_model.specs.Program.{PlainMethod, PlainProgram, code_at, instr_at, locals_of, method_at}
 use Rattle.machine_model.specs.Kinds.{chain, slot_kind}
 use Rattle.machine_model.specs.Shapes.{Shape, Flow, Next, found, shape_at, flow, given_kind, LocalsTake, StackTakes, TakesAt, Follows, FollowsAt, IsWithinLimits, IsShapeTable, IsVerified}
-use Rattle.jasmin_reader.specs.declared.mnemonic.Jump.{Jump}
-use Rattle.jasmin_reader.specs.declared.mnemonic.Jump.TheVariants as jump
-use Rattle.jasmin_reader.specs.declared.line.Line.{Line}
-use Rattle.jasmin_reader.specs.declared.line.Operand.{Operand}
-use Rattle.jasmin_reader.specs.declared.line.Operand.TheVariants.{Int, Stream}
-use Rattle.jasmin_reader.specs.declared.line.Operation.{Operation}
-use Rattle.jasmin_reader.specs.declared.line.Operation.TheVariants as operation
-use Rattle.jasmin_reader.specs.Kept.{operation_in, is_method, is_end, leaves, stores, stack_behind, next_stack, stack_of, branches, is_stored, leaves_at_last, before_end, names_static, labels_from, Surveyed, survey_of, slot_of, place_of}
-use Rattle.jasmin_reader.specs.Rules.{is_local, is_depth, keeps_locals, keeps_names, keeps_stack, empties}
-use Rattle.jasmin_reader.specs.Kept.{has_operands, label_in, is_jump}
-use Rattle.jasmin_reader.specs.Reading.{jump_to, linked, code_of, program_of, main_of, lines_of, reading}
-use Rattle.jasmin_reader.proofs.Formed.{IsFormed, IsFormedLine, lines-formed}
-use Rattle.jasmin_reader.proofs.Keeping.{AllKeep, all-keep}
-use Rattle.jasmin_reader.specs.Lines.{words_of_lines}
-use Rattle.jasmin_reader.proofs.Plainly.{int_statics}
+use Rattle.first_stage.specs.declared.mnemonic.Jump.{Jump}
+use Rattle.first_stage.specs.declared.mnemonic.Jump.TheVariants as jump
+use Rattle.first_stage.specs.declared.line.Line.{Line}
+use Rattle.first_stage.specs.declared.line.Operand.{Operand}
+use Rattle.first_stage.specs.declared.line.Operand.TheVariants.{Int, Stream}
+use Rattle.first_stage.specs.declared.line.Operation.{Operation}
+use Rattle.first_stage.specs.declared.line.Operation.TheVariants as operation
+use Rattle.first_stage.specs.Kept.{operation_in, is_method, is_end, leaves, stores, stack_behind, next_stack, stack_of, branches, is_stored, leaves_at_last, before_end, names_static, labels_from, Surveyed, survey_of, slot_of, place_of}
+use Rattle.first_stage.specs.Rules.{is_local, is_depth, keeps_locals, keeps_names, keeps_stack, empties}
+use Rattle.first_stage.specs.Kept.{has_operands, label_in, is_jump}
+use Rattle.first_stage.specs.Reading.{jump_to, linked, code_of, program_of, main_of, lines_of, reading}
+use Rattle.first_stage.proofs.Formed.{IsFormed, IsFormedLine, lines-formed}
+use Rattle.first_stage.proofs.Keeping.{AllKeep, all-keep}
+use Rattle.first_stage.specs.Lines.{words_of_lines}
+use Rattle.first_stage.proofs.Plainly.{int_statics}
 use Rattle.jasmin_laws.proofs.Given.{given, read_is_plain}
 use Rattle.machine_model.specs.Machine.{end_of, start_machine}
 use Rattle.shape_laws.proofs.FirstEvent.{first_event}

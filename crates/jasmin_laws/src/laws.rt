@@ -3,7 +3,7 @@ ghost use Rattle.vm_model.specs.Program.{PlainProgram};
 ghost use Rattle.vm_model.specs.Plain.{IsPlain};
 ghost use Rattle.machine_model.specs.Machine.{end_of, start_machine};
 ghost use Rattle.machine_model.specs.Shapes.{IsVerified};
-ghost use Rattle.jasmin_reader.specs.Reading.{reading};
+ghost use Rattle.first_stage.specs.Reading.{reading};
 
 /// An accepted text of at most 1,048,576 bytes gives a program of the first stage.
 pub fn accepted_text_is_plain()

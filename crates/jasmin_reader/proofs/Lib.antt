@@ -1,13 +1,4 @@
-pub mod Digits
-pub mod Cutting
-pub mod Turned
-pub mod Naming
-pub mod Bounds
-pub mod Counting
-pub mod Seeing
-pub mod Going
-pub mod Declared
-pub mod Plainly
-pub mod Formed
-pub mod Keeping
-pub mod Stacked
+pub mod Fronts
+pub mod Flags
+pub mod Within
+pub mod Parts

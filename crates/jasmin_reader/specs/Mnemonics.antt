@@ -1,8 +1,6 @@
 -- The words that begin an instruction, and what each asks for.
-use Rattle.std.specs.Prelude.{ℕ, pos, negsuc, ◌++◌, List, [], ◌∷◌, map, codes, bytes_eq, Option, Some, None, if◌then◌else◌, is_some, Bool}
-use Rattle.vm_model.specs.declared.instr.Instr.{Instr}
-use Rattle.vm_model.specs.declared.instr.Instr.TheVariants as instr
-use Rattle.jasmin_reader.specs.declared.mnemonic.Jump.TheVariants as jump
+use Rattle.std.specs.Prelude.{ℕ, pos, negsuc, ◌++◌, List, [], ◌∷◌, map, codes, bytes_eq, Option, Some, None, if◌then◌else◌}
+use Rattle.jasmin_reader.specs.declared.mnemonic.Access.TheVariants as access
 use Rattle.jasmin_reader.specs.declared.mnemonic.Mnemonic.{Mnemonic}
 use Rattle.jasmin_reader.specs.declared.mnemonic.Mnemonic.TheVariants as mnemonic
 
@@ -11,86 +9,80 @@ abbrev pub row_of : {A : Type 0} → List ℕ → List (List ℕ × A) → Optio
 row_of word [] = None
 row_of word (row ∷ rows) = if bytes_eq row.0 word then Some row.1 else row_of word rows
 
--- an instruction without operands, how many ints it takes, and how many it gives
-abbrev pub on_ints : Instr → ℕ → ℕ → Mnemonic
-on_ints i takes gives = mnemonic.Alone i takes gives
+abbrev pub rows : Mnemonic → List (List ℕ) → List (List ℕ × Mnemonic)
+rows m words = map (λ word. (word, m)) words
 
--- the instructions of the first stage
-abbrev pub instructions : List (List ℕ × Mnemonic)
-instructions =
-    (codes "nop", on_ints instr.Nop 0 0) ∷
-    (codes "iconst_m1", on_ints (instr.Push (negsuc 0)) 0 1) ∷
-    (codes "iconst_0", on_ints (instr.Push (pos 0)) 0 1) ∷
-    (codes "iconst_1", on_ints (instr.Push (pos 1)) 0 1) ∷
-    (codes "iconst_2", on_ints (instr.Push (pos 2)) 0 1) ∷
-    (codes "iconst_3", on_ints (instr.Push (pos 3)) 0 1) ∷
-    (codes "iconst_4", on_ints (instr.Push (pos 4)) 0 1) ∷
-    (codes "iconst_5", on_ints (instr.Push (pos 5)) 0 1) ∷
+abbrev pub pushes : List (List ℕ × Mnemonic)
+pushes =
+    (codes "iconst_m1", mnemonic.PushOf (negsuc 0)) ∷
+    (codes "iconst_0", mnemonic.PushOf (pos 0)) ∷
+    (codes "iconst_1", mnemonic.PushOf (pos 1)) ∷
+    (codes "iconst_2", mnemonic.PushOf (pos 2)) ∷
+    (codes "iconst_3", mnemonic.PushOf (pos 3)) ∷
+    (codes "iconst_4", mnemonic.PushOf (pos 4)) ∷
+    (codes "iconst_5", mnemonic.PushOf (pos 5)) ∷
     (codes "bipush", mnemonic.Push (negsuc 127) (pos 127)) ∷
     (codes "sipush", mnemonic.Push (negsuc 32767) (pos 32767)) ∷
-    (codes "ldc", mnemonic.Push (negsuc 2147483647) (pos 2147483647)) ∷
-    (codes "iload", mnemonic.Load) ∷
-    (codes "iload_0", mnemonic.LoadOf 0) ∷
-    (codes "iload_1", mnemonic.LoadOf 1) ∷
-    (codes "iload_2", mnemonic.LoadOf 2) ∷
-    (codes "iload_3", mnemonic.LoadOf 3) ∷
-    (codes "istore", mnemonic.Store) ∷
-    (codes "istore_0", mnemonic.StoreOf 0) ∷
-    (codes "istore_1", mnemonic.StoreOf 1) ∷
-    (codes "istore_2", mnemonic.StoreOf 2) ∷
-    (codes "istore_3", mnemonic.StoreOf 3) ∷
-    (codes "iinc", mnemonic.Increment) ∷
-    (codes "pop", on_ints instr.Pop 1 0) ∷
-    (codes "dup", on_ints instr.Dup 1 2) ∷
-    (codes "swap", on_ints instr.Swap 2 2) ∷
-    (codes "iadd", on_ints instr.Iadd 2 1) ∷
-    (codes "isub", on_ints instr.Isub 2 1) ∷
-    (codes "imul", on_ints instr.Imul 2 1) ∷
-    (codes "ineg", on_ints instr.Ineg 1 1) ∷
-    (codes "iand", on_ints instr.Iand 2 1) ∷
-    (codes "ior", on_ints instr.Ior 2 1) ∷
-    (codes "ixor", on_ints instr.Ixor 2 1) ∷
-    (codes "ifeq", mnemonic.Jump jump.Ifeq 1) ∷
-    (codes "ifne", mnemonic.Jump jump.Ifne 1) ∷
-    (codes "iflt", mnemonic.Jump jump.Iflt 1) ∷
-    (codes "ifge", mnemonic.Jump jump.Ifge 1) ∷
-    (codes "ifgt", mnemonic.Jump jump.Ifgt 1) ∷
-    (codes "ifle", mnemonic.Jump jump.Ifle 1) ∷
-    (codes "if_icmpeq", mnemonic.Jump jump.IfIcmpeq 2) ∷
-    (codes "if_icmpne", mnemonic.Jump jump.IfIcmpne 2) ∷
-    (codes "if_icmplt", mnemonic.Jump jump.IfIcmplt 2) ∷
-    (codes "if_icmpge", mnemonic.Jump jump.IfIcmpge 2) ∷
-    (codes "if_icmpgt", mnemonic.Jump jump.IfIcmpgt 2) ∷
-    (codes "if_icmple", mnemonic.Jump jump.IfIcmple 2) ∷
-    (codes "goto", mnemonic.Jump jump.Goto 0) ∷
-    (codes "getstatic", mnemonic.GetStatic) ∷
-    (codes "putstatic", mnemonic.PutStatic) ∷
-    (codes "invokevirtual", mnemonic.InvokeVirtual) ∷
-    (codes "return", mnemonic.Return) ∷
+    (codes "ldc", mnemonic.Constant) ∷
     []
 
--- the instructions that later stages bring
-abbrev pub later_words : List (List ℕ)
-later_words =
-    codes "aconst_null" ∷ codes "aload" ∷ codes "aload_0" ∷ codes "aload_1" ∷ codes "aload_2" ∷ codes "aload_3" ∷
-    codes "astore" ∷ codes "astore_0" ∷ codes "astore_1" ∷ codes "astore_2" ∷ codes "astore_3" ∷ codes "pop2" ∷
-    codes "dup_x1" ∷ codes "dup_x2" ∷ codes "dup2" ∷ codes "idiv" ∷ codes "irem" ∷ codes "ishl" ∷ codes "ishr" ∷
-    codes "iushr" ∷ codes "if_acmpeq" ∷ codes "if_acmpne" ∷ codes "ifnull" ∷ codes "ifnonnull" ∷ codes "arraylength" ∷
-    codes "invokestatic" ∷ codes "invokespecial" ∷ codes "ireturn" ∷ codes "areturn" ∷ codes "getfield" ∷
-    codes "putfield" ∷ codes "iaload" ∷ codes "iastore" ∷ codes "new" ∷ codes "newarray" ∷ codes "monitorenter" ∷
-    codes "monitorexit" ∷ codes "athrow" ∷ codes "tableswitch" ∷ codes "lookupswitch" ∷ codes "jsr" ∷
-    codes "ret" ∷ codes "wide" ∷ codes "goto_w" ∷ codes "jsr_w" ∷ codes "ldc_w" ∷ codes "ldc2_w" ∷ codes "invokeinterface" ∷
-    codes "invokedynamic" ∷ codes "checkcast" ∷ codes "instanceof" ∷ codes "anewarray" ∷ codes "multianewarray" ∷
-    codes "aaload" ∷ codes "aastore" ∷ codes "baload" ∷ codes "bastore" ∷ codes "caload" ∷ codes "castore" ∷
-    codes "saload" ∷ codes "sastore" ∷ codes "i2b" ∷ codes "i2c" ∷ codes "i2s" ∷ codes "i2l" ∷ codes "i2f" ∷
-    codes "i2d" ∷ codes "lcmp" ∷ []
+abbrev pub locals : List (List ℕ × Mnemonic)
+locals =
+    (codes "iload", mnemonic.Local access.Iload) ∷
+    (codes "iload_0", mnemonic.LocalOf access.Iload (pos 0)) ∷
+    (codes "iload_1", mnemonic.LocalOf access.Iload (pos 1)) ∷
+    (codes "iload_2", mnemonic.LocalOf access.Iload (pos 2)) ∷
+    (codes "iload_3", mnemonic.LocalOf access.Iload (pos 3)) ∷
+    (codes "istore", mnemonic.Local access.Istore) ∷
+    (codes "istore_0", mnemonic.LocalOf access.Istore (pos 0)) ∷
+    (codes "istore_1", mnemonic.LocalOf access.Istore (pos 1)) ∷
+    (codes "istore_2", mnemonic.LocalOf access.Istore (pos 2)) ∷
+    (codes "istore_3", mnemonic.LocalOf access.Istore (pos 3)) ∷
+    (codes "aload", mnemonic.Local access.Aload) ∷
+    (codes "aload_0", mnemonic.LocalOf access.Aload (pos 0)) ∷
+    (codes "aload_1", mnemonic.LocalOf access.Aload (pos 1)) ∷
+    (codes "aload_2", mnemonic.LocalOf access.Aload (pos 2)) ∷
+    (codes "aload_3", mnemonic.LocalOf access.Aload (pos 3)) ∷
+    (codes "astore", mnemonic.Local access.Astore) ∷
+    (codes "astore_0", mnemonic.LocalOf access.Astore (pos 0)) ∷
+    (codes "astore_1", mnemonic.LocalOf access.Astore (pos 1)) ∷
+    (codes "astore_2", mnemonic.LocalOf access.Astore (pos 2)) ∷
+    (codes "astore_3", mnemonic.LocalOf access.Astore (pos 3)) ∷
+    (codes "iinc", mnemonic.Increment) ∷
+    []
+
+-- what takes no operand
+abbrev pub alone : List (List ℕ)
+alone =
+    codes "nop" ∷ codes "aconst_null" ∷ codes "pop" ∷ codes "pop2" ∷ codes "dup" ∷ codes "dup_x1" ∷ codes "dup_x2" ∷ codes "dup2" ∷
+    codes "swap" ∷ codes "iadd" ∷ codes "isub" ∷ codes "imul" ∷ codes "ineg" ∷ codes "idiv" ∷ codes "irem" ∷ codes "ishl" ∷
+    codes "ishr" ∷ codes "iushr" ∷ codes "iand" ∷ codes "ior" ∷ codes "ixor" ∷ codes "arraylength" ∷ codes "iaload" ∷
+    codes "iastore" ∷ codes "monitorenter" ∷ codes "monitorexit" ∷ codes "athrow" ∷ codes "return" ∷ codes "ireturn" ∷
+    codes "areturn" ∷ []
+
+-- what takes a label
+abbrev pub jumps : List (List ℕ)
+jumps =
+    codes "ifeq" ∷ codes "ifne" ∷ codes "iflt" ∷ codes "ifge" ∷ codes "ifgt" ∷ codes "ifle" ∷ codes "if_icmpeq" ∷
+    codes "if_icmpne" ∷ codes "if_icmplt" ∷ codes "if_icmpge" ∷ codes "if_icmpgt" ∷ codes "if_icmple" ∷ codes "if_acmpeq" ∷
+    codes "if_acmpne" ∷ codes "ifnull" ∷ codes "ifnonnull" ∷ codes "goto" ∷ []
+
+-- what the linker refuses, read with the rest of its line
+abbrev pub out_of_profile : List (List ℕ)
+out_of_profile =
+    codes "tableswitch" ∷ codes "lookupswitch" ∷ codes "jsr" ∷ codes "ret" ∷ codes "wide" ∷ codes "goto_w" ∷ codes "jsr_w" ∷
+    codes "ldc_w" ∷ codes "ldc2_w" ∷ codes "invokeinterface" ∷ codes "invokedynamic" ∷ codes "checkcast" ∷ codes "instanceof" ∷
+    codes "anewarray" ∷ codes "multianewarray" ∷ codes "aaload" ∷ codes "aastore" ∷ codes "baload" ∷ codes "bastore" ∷
+    codes "caload" ∷ codes "castore" ∷ codes "saload" ∷ codes "sastore" ∷ codes "i2b" ∷ codes "i2c" ∷ codes "i2s" ∷
+    codes "i2l" ∷ codes "i2f" ∷ codes "i2d" ∷ codes "lcmp" ∷ []
 
 unfoldable pub table : List (List ℕ × Mnemonic)
-table = instructions ++ map (λ word. (word, mnemonic.Later)) later_words
+table =
+    pushes ++ locals ++ rows mnemonic.Alone alone ++ rows mnemonic.Jump jumps
+    ++ rows mnemonic.Field (codes "getstatic" ∷ codes "putstatic" ∷ codes "getfield" ∷ codes "putfield" ∷ [])
+    ++ rows mnemonic.Call (codes "invokestatic" ∷ codes "invokevirtual" ∷ codes "invokespecial" ∷ [])
+    ++ (codes "new", mnemonic.Class) ∷ (codes "newarray", mnemonic.Array) ∷ rows mnemonic.Outside out_of_profile
 
 -- what a word that begins an instruction asks for
 unfoldable pub mnemonic_of : List ℕ → Option Mnemonic
 mnemonic_of word = row_of word table
-
-abbrev pub is_mnemonic : List ℕ → Bool
-is_mnemonic word = is_some (mnemonic_of word)

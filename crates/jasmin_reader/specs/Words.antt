@@ -1,41 +1,46 @@
--- Forms of words: numbers, names, labels.
-use Rattle.std.specs.Prelude.{ℕ, ◌+◌, ◌*◌, ◌-◌, Bool, false, not, ◌&&◌, ◌||◌, if◌then◌else◌, ◌==◌, nat_le, nat_lt, List, [], ◌∷◌, length, take, fold, slice_index, ℤ, pos, neg_ℤ, Option, Some, None, is_some}
-use Rattle.std.specs.Char.{is_ascii_digit, is_ascii_alphanumeric}
-use Rattle.std.specs.List.{list_all}
+-- What a line's words are, and the forms of names.
+use Rattle.std.specs.Prelude.{ℕ, ◌+◌, Bool, false, not, ◌&&◌, ◌||◌, if◌then◌else◌, ◌==◌, List, [], ◌∷◌, length, take, drop, filter, position, codes, bytes_eq, ℤ, int_le, Option, Some, None, Result, Ok, Err}
+use Rattle.std.specs.Char.{is_ascii_alphanumeric}
+use Rattle.std.specs.List.{list_all, list_any}
+use Rattle.jasmin_reader.specs.declared.lexeme.Lexeme.{Lexeme}
+use Rattle.jasmin_reader.specs.declared.lexeme.Lexeme.TheVariants as lexeme
+use Rattle.jasmin_reader.specs.declared.fault.ReadKind.{ReadKind}
+use Rattle.jasmin_reader.specs.declared.fault.ReadKind.TheVariants.{BadOperand, BadName}
+use Rattle.jasmin_reader.specs.Faults.{◌>>=◌}
 
-abbrev pub is_filled : List ℕ → Bool
-is_filled word = not (length word == 0)
+-- ---- words
 
-abbrev pub is_digits : List ℕ → Bool
-is_digits word = is_filled word && list_all is_ascii_digit word
+-- a line's words where it has none, one or two of them
+abbrev pub none : List Lexeme → Result (Unit {0}) ReadKind
+none [] = Ok tt
+none (word ∷ words) = Err BadOperand
 
--- the number that decimal digits spell, behind those that spell n
-abbrev pub value_behind : ℕ → List ℕ → ℕ
-value_behind n digits = fold (λ (m b : ℕ). 10 * m + (b - 48)) n digits
+abbrev pub one : List Lexeme → Result Lexeme ReadKind
+one (word ∷ []) = Ok word
+one _ = Err BadOperand
 
-abbrev pub value : List ℕ → ℕ
-value digits = value_behind 0 digits
+abbrev pub two : List Lexeme → Result (Lexeme × Lexeme) ReadKind
+two (first ∷ second ∷ []) = Ok (first, second)
+two _ = Err BadOperand
 
--- a number is digits, or a minus sign and digits
-abbrev pub is_number : List ℕ → Bool
-is_number [] = false
-is_number (b ∷ rest) = if b == 45 then is_digits rest else is_digits (b ∷ rest)
+abbrev pub word_of : Lexeme → Result (List ℕ) ReadKind
+word_of (lexeme.Word bytes) = Ok bytes
+word_of _ = Err BadOperand
 
-abbrev pub at_most : ℕ → List ℕ → Option ℕ
-at_most most digits = if is_digits digits && nat_le (value digits) most then Some (value digits) else None
+abbrev pub in_range : ℤ → ℤ → ℤ → Result ℤ ReadKind
+in_range low high n = if int_le low n && int_le n high then Ok n else Err BadOperand
 
-abbrev pub negated : Option ℕ → Option ℤ
-negated None = None
-negated (Some n) = Some (neg_ℤ (pos n))
+-- a number from low to high
+abbrev pub number_of : ℤ → ℤ → Lexeme → Result ℤ ReadKind
+number_of low high (lexeme.Number n) = in_range low high n
+number_of low high _ = Err BadOperand
 
-abbrev pub unsigned : Option ℕ → Option ℤ
-unsigned None = None
-unsigned (Some n) = Some (pos n)
+-- whether a word is spelled so
+abbrev pub is_word : List ℕ → Lexeme → Bool
+is_word bytes (lexeme.Word word) = bytes_eq word bytes
+is_word bytes _ = false
 
--- the number of 32 bits that a word spells, if it spells one
-abbrev pub number_of : List ℕ → Option ℤ
-number_of [] = None
-number_of (b ∷ rest) = if b == 45 then negated (at_most 2147483648 rest) else unsigned (at_most 2147483647 (b ∷ rest))
+-- ---- names
 
 abbrev pub is_name_byte : ℕ → Bool
 is_name_byte b = is_ascii_alphanumeric b || b == 95 || b == 36 || b == 45
@@ -43,30 +48,63 @@ is_name_byte b = is_ascii_alphanumeric b || b == 95 || b == 36 || b == 45
 abbrev pub is_class_byte : ℕ → Bool
 is_class_byte b = is_name_byte b || b == 47
 
+abbrev pub is_filled : List ℕ → Bool
+is_filled bytes = not (length bytes == 0)
+
 -- letters, digits, `_`, `$` and `-`
 abbrev pub is_name : List ℕ → Bool
-is_name word = is_filled word && list_all is_name_byte word
-
--- a name of a field or a label, where it is referred to: a number is none
-abbrev pub is_plain_name : List ℕ → Bool
-is_plain_name word = is_name word && not (is_number word)
+is_name bytes = is_filled bytes && list_all is_name_byte bytes
 
 -- the same of a class, which may have `/` too
 abbrev pub is_class_name : List ℕ → Bool
-is_class_name word = is_filled word && list_all is_class_byte word && not (is_number word)
+is_class_name bytes = is_filled bytes && list_all is_class_byte bytes
 
--- a name and a colon
-abbrev pub label_of : List ℕ → Option (List ℕ)
-label_of word =
-    if slice_index word (length word - 1) == 58 && is_name (take (length word - 1) word) then Some (take (length word - 1) word) else None
+-- the same of a method, which may be a constructor or a class initialiser too
+abbrev pub is_method_name : List ℕ → Bool
+is_method_name bytes = is_name bytes || bytes_eq bytes (codes "<init>") || bytes_eq bytes (codes "<clinit>")
 
-abbrev pub is_low : ℕ → Bool
-is_low b = nat_lt b 128
+abbrev pub named : Bool → List ℕ → Result (List ℕ) ReadKind
+named is_good bytes = if is_good then Ok bytes else Err BadName
 
-abbrev pub is_quote : List ℕ → Bool
-is_quote [] = false
-is_quote (b ∷ rest) = b == 34
+-- a word that is a name
+abbrev pub name_of : Lexeme → Result (List ℕ) ReadKind
+name_of word = word_of word >>= λ bytes. named (is_name bytes) bytes
 
--- no string, no byte above 127, and no number outside 32 bits
-abbrev pub is_plain : List ℕ → Bool
-is_plain word = not (is_quote word) && list_all is_low word && (not (is_number word) || is_some (number_of word))
+abbrev pub class_name_of : Lexeme → Result (List ℕ) ReadKind
+class_name_of word = word_of word >>= λ bytes. named (is_class_name bytes) bytes
+
+-- ---- members
+
+-- how many bytes come before the last slash
+abbrev pub slash_from : ℕ → List ℕ → Option ℕ → Option ℕ
+slash_from n [] found = found
+slash_from n (b ∷ rest) found = slash_from (n + 1) rest (if b == 47 then Some n else found)
+
+abbrev pub last_slash : List ℕ → Option ℕ
+last_slash bytes = slash_from 0 bytes None
+
+-- the name of a class and that of a member of it, with a slash between them
+abbrev pub is_member_at : (List ℕ → Bool) → List ℕ → Option ℕ → Result Bool ReadKind
+is_member_at is_good bytes None = Err BadOperand
+is_member_at is_good bytes (Some n) = Ok (is_class_name (take n bytes) && is_good (drop (n + 1) bytes))
+
+-- whether a member's word has names of the right form
+abbrev pub is_member : (List ℕ → Bool) → List ℕ → Result Bool ReadKind
+is_member is_good bytes = is_member_at is_good bytes (last_slash bytes)
+
+-- the name of a method, and its descriptor, which begins with a bracket and has a closing one
+abbrev pub split_at : List ℕ → Option ℕ → Result (List ℕ × List ℕ) ReadKind
+split_at bytes None = Err BadOperand
+split_at bytes (Some n) = if list_any (λ b. b == 41) (drop n bytes) then Ok (take n bytes, drop n bytes) else Err BadOperand
+
+abbrev pub described : List ℕ → Result (List ℕ × List ℕ) ReadKind
+described bytes = split_at bytes (position (λ b. b == 40) bytes)
+
+-- ---- flags
+
+-- the flags among these words, once each and in the order of the known ones; none where another word is there
+abbrev pub flags_of : List (List ℕ) → List Lexeme → Result (List (List ℕ)) ReadKind
+flags_of known words =
+    if list_all (λ word. list_any (λ flag. is_word flag word) known) words
+    then Ok (filter (λ flag. list_any (is_word flag) words) known)
+    else Err BadOperand

@@ -1,29 +1,132 @@
-use std::alloc::{AllocError, AllocFailed};
-use vm_model::NoMemory;
+//! Why a text has no classes.
 
-/// Why a text gave no program of the first stage. Nothing is left behind.
+ghost use Rattle.jasmin_reader.specs.declared.fault.FormError.TheVariants.{Memory};
+ghost use Rattle.jasmin_reader.specs.declared.fault.ReadFault.TheVariants.{NoMemory};
+ghost use Rattle.std.specs.Prelude.{◌≡◌};
+
+use std::alloc::{AllocError, AllocFailed};
+
+/// How a line breaks the grammar. Of several faults of one line the one with the least number counts.
 #[derive(Clone, Copy, Debug, PartialEq, Eq)]
-pub enum PlainFault {
-    /// The least line that is outside the first stage, counted from 1; 0 where the text has no `main` and no such line.
-    NotYet { line: u32 },
-    /// Memory was not found.
+pub enum ReadKind {
+    /// Before the first class stands another line than `.source`, `.bytecode`, `.interface` or `.class`.
+    NoClass,
+    /// A first word that begins with a dot is none of the directives.
+    BadDirective,
+    /// The first word of a line, or the word behind a label, is no mnemonic.
+    BadMnemonic,
+    /// The words of a line are too few, too many, in another order or of another form than the line asks for, or a number is out
+    /// of its range.
+    BadOperand,
+    /// A name has another form than names have.
+    BadName,
+    /// An instruction, a label or a line of a method stands outside methods.
+    OutsideMethod,
+    /// A line of a class stands inside a method.
+    InMethod,
+    /// A field, a method, the next class or the end of the text comes in a class before its `.super`.
+    NoSuper,
+    /// A method has a second label of one name.
+    LabelTwice,
+    /// A method has no `.end method`: at the line of its `.method`.
+    EndMissing,
+    /// The text has more than 1,048,576 bytes: at line 0.
+    TooMany,
+    /// A class has a second `.super`, or a method a second `.limit` of one kind.
+    Repeat,
+}
+
+impl ReadKind {
+    ghost use Rattle.jasmin_reader.specs.Faults.{kind_number};
+
+    /// The number from 1 to 12 by which the kind is printed.
+    pub fn number(&self) -> u8
+        ensures { result ≡ kind_number self.now }
+    {
+        match self {
+            ReadKind::NoClass => 1,
+            ReadKind::BadDirective => 2,
+            ReadKind::BadMnemonic => 3,
+            ReadKind::BadOperand => 4,
+            ReadKind::BadName => 5,
+            ReadKind::OutsideMethod => 6,
+            ReadKind::InMethod => 7,
+            ReadKind::NoSuper => 8,
+            ReadKind::LabelTwice => 9,
+            ReadKind::EndMissing => 10,
+            ReadKind::TooMany => 11,
+            ReadKind::Repeat => 12,
+        }
+    }
+}
+
+/// Why no classes were read. Nothing is left behind.
+#[derive(Clone, Copy, Debug, PartialEq, Eq)]
+pub enum ReadFault {
+    /// The first line that breaks the grammar, counted from 1, and the least of its faults.
+    At { kind: ReadKind, line: u32 },
+    /// Memory was not found; the text may be in the grammar.
     NoMemory,
 }
 
-impl From<NoMemory> for PlainFault {
-    fn from(_e: NoMemory) -> PlainFault {
-        PlainFault::NoMemory
+/// A fault, and the line that has it.
+#[derive(Clone, Copy, Debug, PartialEq, Eq)]
+pub struct Refusal {
+    pub kind: ReadKind,
+    pub line: u32,
+}
+
+/// Why a line, or several, weren't read.
+#[derive(Debug, Drop)]
+pub enum FormError {
+    Memory,
+    Kind(ReadKind),
+}
+
+impl From<AllocError> for FormError {
+    ghost from_gives = { λ _ e. e ≡ Memory };
+
+    fn from(_e: AllocError) -> FormError {
+        FormError::Memory
     }
 }
 
-impl From<AllocError> for PlainFault {
-    fn from(_e: AllocError) -> PlainFault {
-        PlainFault::NoMemory
+impl From<vm_model::NoMemory> for FormError {
+    ghost from_gives = { λ _ e. e ≡ Memory };
+
+    fn from(_e: vm_model::NoMemory) -> FormError {
+        FormError::Memory
     }
 }
 
-impl<T: Drop> From<AllocFailed<T>> for PlainFault {
-    fn from(_e: AllocFailed<T>) -> PlainFault {
-        PlainFault::NoMemory
+impl<T: Drop> From<AllocFailed<T>> for FormError {
+    ghost from_gives = { λ _ e. e ≡ Memory };
+
+    fn from(_e: AllocFailed<T>) -> FormError {
+        FormError::Memory
+    }
+}
+
+impl From<AllocError> for ReadFault {
+    ghost from_gives = { λ _ e. e ≡ NoMemory };
+
+    fn from(_e: AllocError) -> ReadFault {
+        ReadFault::NoMemory
+    }
+}
+
+impl From<vm_model::NoMemory> for ReadFault {
+    ghost from_gives = { λ _ e. e ≡ NoMemory };
+
+    fn from(_e: vm_model::NoMemory) -> ReadFault {
+        ReadFault::NoMemory
+    }
+}
+
+impl<T: Drop> From<AllocFailed<T>> for ReadFault {
+    ghost from_gives = { λ _ e. e ≡ NoMemory };
+
+    fn from(_e: AllocFailed<T>) -> ReadFault {
+        ReadFault::NoMemory
     }
 }

@@ -1,18 +1,24 @@
-//! The first stage of reading a program in Jasmin text: a text becomes a program, or the least line that is outside the stage.
+//! The classes of a program text, as text still: names aren't numbers yet. Or the first line that breaks the grammar.
 #![tactic(auto)]
 
+mod assembly;
+mod class_text;
+mod directives;
 mod fault;
-mod forms;
-mod line;
+mod form;
+mod grammar;
+mod instructions;
+mod lexeme;
 mod mnemonic;
-mod numbers;
+mod names;
 mod read;
-mod rules;
-mod seen;
-mod survey;
 #[cfg(test)]
 mod tests;
 mod words;
+mod writing;
 
-pub use fault::PlainFault;
-pub use read::read_plain;
+pub use class_text::{CatchText, ClassText, FieldText, LineText, MethodText, NameAt, Operand};
+pub use fault::{ReadFault, ReadKind};
+pub use names::is_class_name;
+pub use read::read_classes;
+pub use writing::write_classes;

@@ -1,84 +1,124 @@
-// The lines of a text, and the words of a line.
-ghost use Rattle.std.specs.Prelude.{◌≡◌, ◌==◌, ◌<◌, ◌≤◌, ◌⊎◌, true, ◌∷◌, [], length, position, IfOk, IfSome, MatchOption};
-ghost use Rattle.jasmin_reader.specs.Lines as spec;
+// What a line's words are.
+ghost use Rattle.std.specs.Prelude.{◌≡◌, bytes_eq, Ok, Err};
+ghost use Rattle.std.specs.List.{list_any, list_all};
+ghost use Rattle.jasmin_reader.specs.Faults.{Gives};
 ghost use Rattle.jasmin_reader.specs.Texts.{texts};
+ghost use Rattle.jasmin_reader.specs.Words as spec;
+ghost use denote.Ref.{Bor};
+ghost use Rattle.std.specs.Prelude.{List, ℕ};
 
+use crate::fault::{FormError, ReadKind};
+use crate::lexeme::Lexeme;
 use std::alloc::Global;
-use vm_model::NoMemory;
+use vm_model::{Name, NoMemory};
 
-fn find_line_feed(text: &[u8]) -> Option<usize>
-    ensures { result ≡ position (λ b. b == 10) text.now }
+pub fn none(words: &[Lexeme]) -> Result<(), FormError>
+    ensures { Gives (λ x. x) result (spec.none words.now) }
 {
-    text.iter().position(|b| *b == b'\n')
-}
-
-/// The first line of a text, and the text behind it; nothing where the text has no line.
-pub fn next_line(text: &[u8]) -> Option<(&[u8], &[u8])>
-    ensures lines { MatchOption result (spec.lines text.now ≡ []) (λ x. spec.lines text.now ≡ x.0.now ∷ spec.lines x.1.now) }
-    ensures shorter { IfSome result (λ x. length x.1.now < length text.now) }
-{
-    if text.is_empty() {
-        return None;
-    }
-    match find_line_feed(text) {
-        Some(end) => Some((&text[..end], &text[end + 1..])),
-        None => Some((text, &[])),
+    match words {
+        [] => Ok(()),
+        _ => Err(FormError::Kind(ReadKind::BadOperand)),
     }
 }
 
-/// White space: the space, every byte below it, and byte 127.
-fn is_white(b: u8) -> bool
-    ensures { result ≡ spec.is_white b }
+pub fn one(words: &[Lexeme]) -> Result<&Lexeme, FormError>
+    ensures { Gives (λ x. x.now) result (spec.one words.now) }
 {
-    b <= 32 || b == 127
+    match words {
+        [word] => Ok(word),
+        _ => Err(FormError::Kind(ReadKind::BadOperand)),
+    }
 }
 
-fn find_white(line: &[u8]) -> Option<usize>
-    ensures { result ≡ position spec.is_white line.now }
+pub fn two(words: &[Lexeme]) -> Result<(&Lexeme, &Lexeme), FormError>
+    ensures { Gives (λ x. (x.0.now, x.1.now)) result (spec.two words.now) }
 {
-    line.iter().position(|b| is_white(*b))
+    match words {
+        [first, second] => Ok((first, second)),
+        _ => Err(FormError::Kind(ReadKind::BadOperand)),
+    }
 }
 
-/// A line's rest without the white space that it begins with.
-fn behind_white(line: &[u8]) -> &[u8]
-    ensures words { spec.words result.now ≡ spec.words line.now }
-    ensures begun { length result.now ≡ 0 ⊎ spec.goes_on result.now ≡ true }
-    ensures shorter { length result.now ≤ length line.now }
+pub fn word_of(word: &Lexeme) -> Result<&[u8], FormError>
+    ensures { Gives (λ x. x.now) result (spec.word_of word.now) }
 {
-    let mut rest = line;
-    while let [b, after @ ..] = rest {
-        if !is_white(*b) {
-            break;
+    match word {
+        Lexeme::Word(name) => Ok(name.bytes()),
+        _ => Err(FormError::Kind(ReadKind::BadOperand)),
+    }
+}
+
+/// A number from low to high.
+pub fn number_of(low: i32, high: i32, word: &Lexeme) -> Result<i32, FormError>
+    ensures { Gives (λ x. x) result (spec.number_of low high word.now) }
+{
+    match word {
+        Lexeme::Number(n) => {
+            if low <= *n && *n <= high {
+                Ok(*n)
+            } else {
+                Err(FormError::Kind(ReadKind::BadOperand))
+            }
+        }
+        _ => Err(FormError::Kind(ReadKind::BadOperand)),
+    }
+}
+
+/// Whether two words are the same.
+pub fn is(word: &[u8], other: &[u8]) -> bool
+    ensures { result ≡ bytes_eq word.now other.now }
+{
+    word == other
+}
+
+/// Whether a word is spelled so.
+pub fn is_word(bytes: &[u8], word: &Lexeme) -> bool
+    ensures { result ≡ spec.is_word bytes.now word.now }
+{
+    match word {
+        Lexeme::Word(name) => is(name.bytes(), bytes),
+        _ => false,
+    }
+}
+
+pub fn copied(alloc: Global, bytes: &[u8]) -> Result<Name, FormError>
+    ensures { Gives (λ x. x) result (Ok bytes.now) }
+{
+    Ok(Name::of(alloc, bytes)?)
+}
+
+fn is_flag(known: &[&[u8]], word: &Lexeme) -> bool
+    ensures { result ≡ list_any (λ (flag : Bor (List ℕ)). spec.is_word flag.now word.now) known.now }
+{
+    known.iter().any(|flag| is_word(flag, word))
+}
+
+fn are_flags(known: &[&[u8]], words: &[Lexeme]) -> bool
+    ensures { result ≡ list_all (λ word. list_any (λ (flag : Bor (List ℕ)). spec.is_word flag.now word) known.now) words.now }
+{
+    words.iter().all(|word| is_flag(known, word))
+}
+
+fn is_said(flag: &[u8], words: &[Lexeme]) -> bool
+    ensures { result ≡ list_any (spec.is_word flag.now) words.now }
+{
+    words.iter().any(|word| is_word(flag, word))
+}
+
+/// The flags among these words, once each and in the order of the known ones.
+pub fn flags_of(alloc: Global, known: &[&[u8]], words: &[Lexeme]) -> Result<Vec<Name>, FormError>
+    ensures { Gives (λ x. x.items) result (spec.flags_of (texts known.now) words.now) }
+{
+    if !are_flags(known, words) {
+        return Err(FormError::Kind(ReadKind::BadOperand));
+    }
+    let mut flags = Vec::new(alloc);
+    let mut rest = known;
+    while let [flag, after @ ..] = rest {
+        if is_said(flag, words) {
+            flags.push(Name::of(alloc, flag)?)?;
         }
         rest = after;
     }
-    rest
-}
-
-/// The first word of a line's rest, where that begins with white space or with a word, and what is behind it.
-fn next_word(line: &[u8]) -> Option<(&[u8], &[u8])>
-    ensures words { MatchOption result (spec.words line.now ≡ []) (λ x. spec.words line.now ≡ x.0.now ∷ spec.words x.1.now) }
-    ensures shorter { IfSome result (λ x. length x.1.now < length line.now) }
-{
-    let line = behind_white(line);
-    if line.is_empty() || line[0] == b';' {
-        return None;
-    }
-    match find_white(line) {
-        Some(end) => Some((&line[..end], &line[end..])),
-        None => Some((line, &[])),
-    }
-}
-
-/// The words of a line.
-pub fn words(alloc: Global, line: &[u8]) -> Result<Vec<&[u8]>, NoMemory>
-    ensures { IfOk result (λ v. texts v.items ≡ spec.words line.now) }
-{
-    let mut found = Vec::new(alloc);
-    let mut rest = line;
-    while let Some((word, after)) = next_word(rest) {
-        found.push(word)?;
-        rest = after;
-    }
-    Ok(found)
+    Ok(flags)
 }
