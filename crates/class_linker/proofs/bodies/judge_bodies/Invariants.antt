@@ -1,0 +1,9 @@
+use Rattle.std.proofs.Common.{◌≡◌, length}
+use Rattle.class_linker.specs.Bodies.{bodies_judged}
+use Rattle.class_linker.proofs.bodies.judge_bodies.Given as goal
+
+abbrev pub invariant-loop-rest : goal.invariant-loop-rest
+invariant-loop-rest l = bodies_judged l.names l.thread_run l.texts l.rest l.found ≡ bodies_judged l.names l.thread_run l.texts l.classes l.initial.found
+
+abbrev pub decreases-loop-rest : goal.decreases-loop-rest
+decreases-loop-rest l = length l.rest

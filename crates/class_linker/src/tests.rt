@@ -1,0 +1,442 @@
+use crate::{LinkFault, link};
+use jasmin_reader::read_classes;
+use jasmin_text::tokens;
+use std::alloc::Global;
+use std::test::Fail;
+use vm_model::{Instr, NoMemory, Program};
+
+fn linked(alloc: Global, text: &[u8]) -> Result<Program, LinkFault> {
+    if text.len() > 1_048_576 {
+        return Err(LinkFault::NoMemory);
+    }
+    match tokens(alloc, text) {
+        Ok(found) => match read_classes(alloc, text, &found) {
+            Ok(classes) => link(alloc, &classes),
+            Err(_) => Err(LinkFault::NoMemory),
+        },
+        Err(_) => Err(LinkFault::NoMemory),
+    }
+}
+
+/// The number of a text's fault and its line; nothing where it is linked.
+fn fault_of(alloc: Global, text: &str) -> Result<Option<(u8, u32)>, NoMemory> {
+    match linked(alloc, text.as_bytes()) {
+        Ok(_) => Ok(None),
+        Err(LinkFault::At { kind, line }) => Ok(Some((kind.number(), line))),
+        Err(LinkFault::NoMemory) => Err(NoMemory),
+    }
+}
+
+/// A class with these members, which begin at line 3, and a main behind them.
+fn with_members(alloc: Global, members: &str) -> Result<String, NoMemory> {
+    Ok(format!(in alloc;
+        ".class A\n.super java/lang/Object\n{members}.method public static main([Ljava/lang/String;)V\nreturn\n.end method\n"
+    )?)
+}
+
+/// A class of threads with fields and methods, and a main with this body, which begins at line 10.
+fn with_body(alloc: Global, body: &str) -> Result<String, NoMemory> {
+    Ok(format!(in alloc;
+        ".class A\n.super java/lang/Thread\n.field static s I\n.field x I\n.method f(I[I)LA;\n.end method\n.method static g()V\n.end method\n.method public static main([Ljava/lang/String;)V\n{body}return\n.end method\n"
+    )?)
+}
+
+/// The first instruction of main.
+fn first_instr(alloc: Global, body: &str) -> Result<Option<Instr>, LinkFault> {
+    let text = with_body(alloc, body)?;
+    let program = linked(alloc, text.as_bytes())?;
+    Ok(program.instr_at(program.main_method(), 0))
+}
+
+fn repeated(alloc: Global, piece: &str, times: u32) -> Result<String, NoMemory> {
+    let mut text = String::new(alloc);
+    for _ in 0..times {
+        text.push_str(piece)?;
+    }
+    Ok(text)
+}
+
+// Members, and the number of their fault and its line.
+const MEMBERS_REFUSED: [(&str, (u8, u32)); 52] = [
+    (".field x Z\n", (9, 3)),
+    (".field x D\n", (9, 3)),
+    (".field x [Z\n", (9, 3)),
+    (".field x [[I\n", (9, 3)),
+    (".field x [[[I\n", (9, 3)),
+    (".field x [LA;\n", (9, 3)),
+    (".field x [LB;\n", (9, 3)),
+    (".field x [Ljava/lang/String;\n", (9, 3)),
+    (".field x LB;\n", (2, 3)),
+    (".field x Ljava/lang/System;\n", (2, 3)),
+    (".field x V\n", (7, 3)),
+    (".field x II\n", (7, 3)),
+    (".field x [\n", (7, 3)),
+    (".field x [V\n", (7, 3)),
+    (".field x [[\n", (7, 3)),
+    (".field x L;\n", (7, 3)),
+    (".field x LA\n", (7, 3)),
+    (".field x La.b;\n", (7, 3)),
+    (".field x LB;I\n", (7, 3)),
+    (".field x I = 3\n", (9, 3)),
+    (".field static x [I = 3\n", (9, 3)),
+    (".field native x I\n", (9, 3)),
+    (".field x I\n.field x I\n", (6, 4)),
+    (".field x I\n.field static x LB;\n", (2, 4)),
+    (".field x I\n.field static x Z\n", (6, 4)),
+    (".implements java/lang/Runnable\n", (4, 3)),
+    (".implements B\n", (4, 3)),
+    (".implements B\n.method run()V\n.end method\n", (9, 3)),
+    (
+        ".method static run()V\n.end method\n.implements java/lang/Runnable\n",
+        (4, 5),
+    ),
+    (".method f(Z)V\n.end method\n", (9, 3)),
+    (".method f()[Z\n.end method\n", (9, 3)),
+    (".method f([Ljava/lang/String;)V\n.end method\n", (9, 3)),
+    (".method f(LB;)V\n.end method\n", (2, 3)),
+    (".method f()LB;\n.end method\n", (2, 3)),
+    (".method f(Q)LB;\n.end method\n", (2, 3)),
+    (".method f(QLB;)V\n.end method\n", (7, 3)),
+    (".method f(V)V\n.end method\n", (7, 3)),
+    (".method f()\n.end method\n", (7, 3)),
+    (".method f()II\n.end method\n", (7, 3)),
+    (".method <init>()I\n.end method\n", (7, 3)),
+    (".method <init>()Z\n.end method\n", (7, 3)),
+    (".method static <init>()V\n.end method\n", (9, 3)),
+    (".method <clinit>()V\n.end method\n", (9, 3)),
+    (".method static wait()V\n.end method\n", (9, 3)),
+    (".method abstract f()V\n.end method\n", (9, 3)),
+    (
+        ".method f()V\n.end method\n.method static f()V\n.end method\n",
+        (6, 5),
+    ),
+    (".method f()V\n.limit stack 1025\n.end method\n", (8, 3)),
+    (".method f()V\n.limit locals 257\n.end method\n", (8, 3)),
+    (".method f(IIIIIIIIIIIIIIIII)V\n.end method\n", (8, 3)),
+    (".method f(ZZZZZZZZZZZZZZZZZ)V\n.end method\n", (8, 3)),
+    (".method main([Ljava/lang/String;)I\n.end method\n", (9, 3)),
+    // faults of declarations before those of bodies
+    (".method f()V\ngoto L\n.end method\n.field x Z\n", (9, 6)),
+];
+
+const MEMBERS_TAKEN: [&str; 11] = [
+    "",
+    ".field static s I = -3\n.field static t I\n.field x [I\n.field y LA;\n",
+    ".field x Ljava/lang/Object;\n.field y Ljava/lang/AssertionError;\n",
+    ".method f()V\n.end method\n.method f(I)V\n.end method\n.method f()I\n.end method\n",
+    ".method run()V\n.end method\n.implements java/lang/Runnable\n.implements java/lang/Runnable\n",
+    ".method <init>(Ljava/lang/String;)V\n.end method\n",
+    ".method f()V\n.limit stack 1024\n.limit locals 256\n.end method\n",
+    ".method f(IIIIIIIIIIIIIIII)V\n.end method\n",
+    ".method main(I)V\n.end method\n",
+    ".method start(I)V\n.end method\n.method wait()I\n.end method\n",
+    ".method f()V\ngoto L\nL:\n.end method\n",
+];
+
+#[test]
+fn members_refused(rt: HostRuntime) -> Result<(), Fail> {
+    let alloc = rt.alloc();
+    for (members, wanted) in MEMBERS_REFUSED.iter() {
+        let text = with_members(alloc, members)?;
+        assert!(rt; fault_of(alloc, &text)? == Some(*wanted), "{members}");
+    }
+    Ok(())
+}
+
+#[test]
+fn members_taken(rt: HostRuntime) -> Result<(), Fail> {
+    let alloc = rt.alloc();
+    for members in MEMBERS_TAKEN.iter() {
+        let text = with_members(alloc, members)?;
+        assert!(rt; fault_of(alloc, &text)? == None, "{members}");
+    }
+    Ok(())
+}
+
+// Bodies, and the number of the fault of their first line.
+const BODIES_REFUSED: [(&str, u8); 52] = [
+    ("new B\n", 2),
+    ("new java/lang/System\n", 2),
+    ("new java/lang/Runnable\n", 9),
+    ("new java/lang/String\n", 9),
+    ("new java/io/PrintStream\n", 9),
+    ("new java/lang/VirtualMachineError\n", 9),
+    ("getstatic A/y I\n", 3),
+    ("getstatic A/x I\n", 3),
+    ("putstatic A/x I\n", 3),
+    ("getfield A/s I\n", 3),
+    ("putfield A/s I\n", 3),
+    ("getstatic A/s Z\n", 3),
+    ("getstatic A/s [I\n", 3),
+    ("getstatic A/s Q\n", 3),
+    ("getstatic A/s LB;\n", 2),
+    ("getstatic B/s I\n", 2),
+    ("getstatic java/lang/Object/s I\n", 3),
+    ("getstatic java/lang/System/out I\n", 2),
+    ("getstatic java/lang/System/err Ljava/io/PrintStream;\n", 2),
+    ("putstatic java/lang/System/out Ljava/io/PrintStream;\n", 3),
+    ("getfield java/lang/System/out Ljava/io/PrintStream;\n", 3),
+    ("goto L\n", 5),
+    ("ifeq l\nL: nop\n", 5),
+    ("invokestatic A/h()V\n", 4),
+    ("invokestatic A/g(I)V\n", 4),
+    ("invokestatic A/f(I[I)LA;\n", 4),
+    ("invokevirtual A/g()V\n", 4),
+    ("invokespecial A/g()V\n", 4),
+    ("invokestatic B/g()V\n", 2),
+    ("invokestatic A/g(LB;)V\n", 2),
+    ("invokestatic A/g()LB;\n", 2),
+    ("invokevirtual A/main([Ljava/lang/String;)V\n", 4),
+    ("invokespecial A/<init>()V\n", 4),
+    ("invokestatic A/<clinit>()V\n", 4),
+    ("invokevirtual java/lang/Object/<init>()V\n", 4),
+    ("invokespecial java/lang/String/<init>()V\n", 4),
+    ("invokespecial java/lang/VirtualMachineError/<init>()V\n", 4),
+    (
+        "invokespecial java/lang/AssertionError/<init>(Ljava/lang/String;)V\n",
+        4,
+    ),
+    (
+        "invokespecial java/lang/Object/<init>(Ljava/lang/Runnable;)V\n",
+        4,
+    ),
+    ("invokestatic java/lang/Object/notify()V\n", 4),
+    ("invokevirtual java/lang/String/notify()V\n", 4),
+    ("invokevirtual java/lang/Object/wait(J)V\n", 4),
+    ("invokevirtual java/lang/Object/start()V\n", 4),
+    ("invokevirtual java/lang/Thread/yield()V\n", 4),
+    ("invokestatic java/lang/Object/yield()V\n", 4),
+    ("invokevirtual java/lang/Runnable/run()V\n", 4),
+    ("invokevirtual java/io/PrintStream/println(Z)V\n", 4),
+    ("newarray byte\n", 9),
+    ("newarray\n", 9),
+    ("tableswitch 1\n", 9),
+    ("checkcast A\n", 9),
+    (".catch all from L to L using L\n", 9),
+];
+
+#[test]
+fn bodies_refused(rt: HostRuntime) -> Result<(), Fail> {
+    let alloc = rt.alloc();
+    for (body, wanted) in BODIES_REFUSED.iter() {
+        let text = with_body(alloc, body)?;
+        assert!(rt; fault_of(alloc, &text)? == Some((*wanted, 10)), "{body}");
+    }
+    Ok(())
+}
+
+// Bodies, and their first instruction. Methods have the numbers 0 to 2, and Thread's own run has 3.
+const BODIES_TAKEN: [(&str, Instr); 52] = [
+    ("iadd\n", Instr::Iadd),
+    ("dup_x2\n", Instr::DupX2),
+    ("areturn\n", Instr::Areturn),
+    ("iconst_m1\n", Instr::Push(-1)),
+    ("ldc \"a\"\n", Instr::PushText(0)),
+    ("iload 255\n", Instr::Iload(255)),
+    ("istore_0\n", Instr::Istore(0)),
+    ("aload_2\n", Instr::Aload(2)),
+    ("astore 3\n", Instr::Astore(3)),
+    ("iinc 4 -5\n", Instr::Iinc { local: 4, by: -5 }),
+    ("ifeq L\nnop\nL:\n", Instr::Ifeq(2)),
+    ("ifle L\nL:\n", Instr::Ifle(1)),
+    ("if_icmpge L\nL:\n", Instr::IfIcmpge(1)),
+    ("if_acmpne L\nL:\n", Instr::IfAcmpne(1)),
+    ("ifnull L\nL:\n", Instr::Ifnull(1)),
+    ("L: goto L\n", Instr::Goto(0)),
+    ("new A\n", Instr::New(32)),
+    ("new java/lang/Object\n", Instr::New(0)),
+    ("new java/lang/AssertionError\n", Instr::New(22)),
+    ("newarray int\n", Instr::NewArray),
+    ("getstatic A/s I\n", Instr::GetStatic(0)),
+    ("putstatic A/s I\n", Instr::PutStatic(0)),
+    (
+        "getfield A/x I\n",
+        Instr::GetField {
+            class: 32,
+            place: 1,
+        },
+    ),
+    (
+        "putfield A/x I\n",
+        Instr::PutField {
+            class: 32,
+            place: 1,
+        },
+    ),
+    (
+        "getstatic java/lang/System/out Ljava/io/PrintStream;\n",
+        Instr::Out,
+    ),
+    ("invokestatic A/g()V\n", Instr::InvokeStatic(1)),
+    (
+        "invokestatic A/main([Ljava/lang/String;)V\n",
+        Instr::InvokeStatic(2),
+    ),
+    ("invokevirtual A/f(I[I)LA;\n", Instr::InvokeVirtual(0)),
+    ("invokespecial A/f(I[I)LA;\n", Instr::InvokeSpecial(0)),
+    ("invokevirtual A/run()V\n", Instr::InvokeVirtual(3)),
+    ("invokespecial A/run()V\n", Instr::InvokeSpecial(3)),
+    ("invokevirtual java/lang/Thread/run()V\n", Instr::RunOf(1)),
+    (
+        "invokespecial java/lang/Thread/run()V\n",
+        Instr::InvokeSpecial(3),
+    ),
+    ("invokevirtual A/start()V\n", Instr::Start),
+    ("invokevirtual java/lang/Thread/join()V\n", Instr::Join),
+    ("invokestatic A/yield()V\n", Instr::Yield),
+    ("invokestatic java/lang/Thread/yield()V\n", Instr::Yield),
+    ("invokevirtual A/wait()V\n", Instr::Wait),
+    (
+        "invokevirtual java/lang/Runnable/notify()V\n",
+        Instr::Notify,
+    ),
+    (
+        "invokespecial java/lang/Error/notifyAll()V\n",
+        Instr::NotifyAll,
+    ),
+    (
+        "invokevirtual java/io/PrintStream/println()V\n",
+        Instr::Println,
+    ),
+    (
+        "invokevirtual java/io/PrintStream/println(I)V\n",
+        Instr::PrintInt { newline: true },
+    ),
+    (
+        "invokevirtual java/io/PrintStream/print(I)V\n",
+        Instr::PrintInt { newline: false },
+    ),
+    (
+        "invokevirtual java/io/PrintStream/println(Ljava/lang/String;)V\n",
+        Instr::PrintText { newline: true },
+    ),
+    (
+        "invokevirtual java/io/PrintStream/print(Ljava/lang/String;)V\n",
+        Instr::PrintText { newline: false },
+    ),
+    (
+        "invokespecial java/lang/Object/<init>()V\n",
+        Instr::Init {
+            class: 0,
+            text: false,
+        },
+    ),
+    (
+        "invokespecial java/lang/Thread/<init>()V\n",
+        Instr::Init {
+            class: 1,
+            text: false,
+        },
+    ),
+    (
+        "invokespecial java/lang/Thread/<init>(Ljava/lang/Runnable;)V\n",
+        Instr::InitRunnable,
+    ),
+    (
+        "invokespecial java/lang/AssertionError/<init>()V\n",
+        Instr::Init {
+            class: 22,
+            text: false,
+        },
+    ),
+    (
+        "invokespecial java/lang/OutOfMemoryError/<init>(Ljava/lang/String;)V\n",
+        Instr::Init {
+            class: 21,
+            text: true,
+        },
+    ),
+    ("monitorenter\n", Instr::MonitorEnter),
+    ("athrow\n", Instr::Athrow),
+];
+
+#[test]
+fn bodies_taken(rt: HostRuntime) -> Result<(), Fail> {
+    let alloc = rt.alloc();
+    for (body, wanted) in BODIES_TAKEN.iter() {
+        assert!(rt; first_instr(alloc, body) == Ok(Some(*wanted)), "{body}");
+    }
+    Ok(())
+}
+
+const TEXTS_REFUSED: [(&str, (u8, u32)); 10] = [
+    ("", (1, 0)),
+    (".class A\n.super java/lang/Object\n", (1, 0)),
+    (
+        ".class A\n.super java/lang/Object\n.method static main([Ljava/lang/String;)V\n.end method\n",
+        (1, 0),
+    ),
+    (
+        ".class A\n.super java/lang/Object\n.class A\n.super java/lang/Object\n",
+        (6, 3),
+    ),
+    (".class java/lang/Thread\n.super java/lang/Object\n", (6, 1)),
+    (".class abstract A\n.super java/lang/Object\n", (9, 1)),
+    (".class A\n.super java/lang/Integer\n", (9, 2)),
+    (".class A\n.super A\n", (9, 2)),
+    (".interface A\n.class A\n.super java/lang/Object\n", (9, 1)),
+    (
+        ".class A\n.super java/lang/Object\n.method f()V\ngoto X\n.end method\n",
+        (5, 4),
+    ),
+];
+
+#[test]
+fn texts_refused(rt: HostRuntime) -> Result<(), Fail> {
+    let alloc = rt.alloc();
+    for (text, wanted) in TEXTS_REFUSED.iter() {
+        assert!(rt; fault_of(alloc, text)? == Some(*wanted), "{text}");
+    }
+    Ok(())
+}
+
+/// A body of so many instructions, the text that its first one pushes, and whether it is taken.
+#[test]
+fn limits_of_bodies(rt: HostRuntime) -> Result<(), Fail> {
+    let alloc = rt.alloc();
+    let most = with_members(
+        alloc,
+        &format!(in alloc;
+            ".method f()V\n{}.end method\n",
+            repeated(alloc, "nop\n", 16384)?
+        )?,
+    )?;
+    assert!(rt; fault_of(alloc, &most)? == None);
+    let more = with_members(
+        alloc,
+        &format!(in alloc;
+            ".method f()V\n{}.end method\n",
+            repeated(alloc, "nop\n", 16385)?
+        )?,
+    )?;
+    assert!(rt; fault_of(alloc, &more)? == Some((8, 16388)));
+    let long = with_body(
+        alloc,
+        &format!(in alloc; "ldc \"{}\"\n", repeated(alloc, "a", 200)?)?,
+    )?;
+    assert!(rt; fault_of(alloc, &long)? == None);
+    let longer = with_body(
+        alloc,
+        &format!(in alloc; "ldc \"{}\"\n", repeated(alloc, "a", 201)?)?,
+    )?;
+    assert!(rt; fault_of(alloc, &longer)? == Some((8, 10)));
+    Ok(())
+}
+
+const WHOLE: &str =
+    ".class A\n.super java/lang/Object\n.field static s I = 7\n.field static o LB;\n.field x [I\n.method public static synchronized main([Ljava/lang/String;)V\n.limit stack 3\nldc \"b\"\nldc \"a\"\nldc \"b\"\n.end method\n.class B\n.super java/lang/Thread\n.implements java/lang/Runnable\n.method run()V\n.end method\n";
+
+#[test]
+fn whole_program(rt: HostRuntime) -> Result<(), Fail> {
+    let alloc = rt.alloc();
+    let program = match linked(alloc, WHOLE.as_bytes()) {
+        Ok(program) => program,
+        Err(_) => return Err(Fail::from(NoMemory)),
+    };
+    assert!(rt; program.main == 0 && program.classes.len() == 2 && program.methods.len() == 3);
+    assert!(rt; program.texts.len() == 2 && program.statics.len() == 2);
+    assert!(rt; program.text(0) == b"b".as_slice() && program.text(1) == b"a".as_slice());
+    assert!(rt; program.instr_at(0, 2) == Some(Instr::PushText(0)));
+    assert!(rt; program.instr_at(2, 6) == Some(Instr::RunOf(2)));
+    Ok(())
+}
