@@ -4,16 +4,18 @@ use Rattle.dejavu_tool.specs.declared.status.Status.{Status}
 use Rattle.dejavu_tool.specs.declared.status.Status.TheVariants as status
 use Rattle.dejavu_tool.specs.Answers.{Answers, Tells, Records, Replays}
 use Rattle.dejavu_tool.specs.Calls.{FolderCall, SinkCall, Puts}
-use Rattle.dejavu_tool.specs.Commands.{Request, Record, Replay, Unknown}
+use Rattle.dejavu_tool.specs.Commands.{Request, Check, Record, Replay, Unknown}
 use Rattle.dejavu_tool.specs.Headline.{RecordingHolds, ReplayHolds, IsFinishedRecording, IsFinishedReplay}
 use Rattle.dejavu_tool.specs.Stages.{PutsUnlessFault}
 
 tells_no_fault : (asked : Request) (c : FolderCall) (text : List ℕ) → Tells asked c status.WriteFault text → ⊥
+tells_no_fault (Check program) c text t = t.1
 tells_no_fault (Record program log) c text t = t.1
 tells_no_fault (Replay program log) c text t = ⊎_elim (λ a. a) (λ a. ⊎_elim (λ b. b.stops) (λ b. b.stops) a) t.1
 tells_no_fault Unknown c text t = t
 
 tells_no_memory : (asked : Request) (c : FolderCall) (text : List ℕ) → Tells asked c status.OutOfMemory text → ⊥
+tells_no_memory (Check program) c text t = t.1
 tells_no_memory (Record program log) c text t = t.1
 tells_no_memory (Replay program log) c text t = ⊎_elim (λ a. a) (λ a. ⊎_elim (λ b. b.stops) (λ b. b.stops) a) t.1
 tells_no_memory Unknown c text t = t
@@ -89,10 +91,12 @@ replayed_so c s program log text r p told told' = record {
 pub recording_holds : (asked : Request) (c : FolderCall) (s : SinkCall) (answer : Status) → Answers asked c s answer → RecordingHolds asked c s answer
 recording_holds (Record program log) c s answer a =
     λ e told told'. let so = subst (λ (x : Status). Answers (Record program log) c s x) e a in recorded_so c s program log so.text so.tells so.printed told told'
+recording_holds (Check program) c s answer a = tt
 recording_holds (Replay program log) c s answer a = tt
 recording_holds Unknown c s answer a = tt
 
 pub replay_holds : (asked : Request) (c : FolderCall) (s : SinkCall) (answer : Status) → Answers asked c s answer → ReplayHolds asked c s answer
+replay_holds (Check program) c s answer a = tt
 replay_holds (Record program log) c s answer a = tt
 replay_holds (Replay program log) c s answer a =
     λ e told told'. let so = subst (λ (x : Status). Answers (Replay program log) c s x) e a in replayed_so c s program log so.text so.tells so.printed told told'

@@ -10,11 +10,11 @@ use Rattle.thread_driver.specs.Recordings.{Diverges}
 use Rattle.dejavu_tool.proofs.Repeating.{same_some, same_ok, spelled_is_read}
 use Rattle.dejavu_tool.specs.declared.status.Status.{Status}
 use Rattle.dejavu_tool.specs.declared.status.Status.TheVariants as status
-use Rattle.dejavu_tool.specs.Accepting.{accepting}
-use Rattle.dejavu_tool.specs.Answers.{Answers, LoadsProgram, LoadsLog, LogStops, ProgramStops, StopsAtLog, StopsAtRun, TellsDivergence}
+use Rattle.dejavu_tool.specs.Accepting.{accepting, linked}
+use Rattle.dejavu_tool.specs.Answers.{Answers, LinkStops, LoadsProgram, LoadsLog, LogStops, ProgramStops, StopsAtLog, StopsAtRun, TellsDivergence}
 use Rattle.dejavu_tool.specs.Calls.{FolderCall, SinkCall}
-use Rattle.dejavu_tool.specs.Commands.{Request, Record, Replay, Unknown}
-use Rattle.dejavu_tool.specs.Completeness.{CanRecord, CanReplay, IsComplete}
+use Rattle.dejavu_tool.specs.Commands.{Request, Check, Record, Replay, Unknown}
+use Rattle.dejavu_tool.specs.Completeness.{CanCheck, CanRecord, CanReplay, IsComplete}
 
 -- ---- runs
 
@@ -67,7 +67,7 @@ program_stops c s program status.Absent text can h = no_some (c.before program) 
 program_stops c s program status.ReadFault text can h = can.no_load h.0
 program_stops c s program status.ProgramRefused text can h =
     let same = same_some (c.before program) h.text can.text (h.loaded can.told) can.there in
-    never (accepting can.text) can.of_program h.refuses.line can.accepted (subst (λ (t : List ℕ). accepting t ≡ Err h.refuses.line) same h.refuses.refused)
+    never (accepting can.text) can.of_program h.refuses.fault can.accepted (subst (λ (t : List ℕ). accepting t ≡ Err h.refuses.fault) same h.refuses.refused)
 program_stops c s program status.Ok text can h = h
 program_stops c s program status.Usage text can h = h
 program_stops c s program status.LogRefused text can h = h
@@ -136,7 +136,32 @@ replay_done c s program log status.ProgramRefused can a = absurd (replay_stops c
 replay_done c s program log status.LogRefused can a = absurd (replay_stops c s program log status.LogRefused a.text can a.tells.1)
 replay_done c s program log status.Diverged can a = absurd (replay_stops c s program log status.Diverged a.text can a.tells.1)
 
+link_stops : (c : FolderCall) (s : SinkCall) (program : List ℕ) (answer : Status) (text : List ℕ) → CanCheck c s program → LinkStops c program answer text → ⊥
+link_stops c s program status.Absent text can h = no_some (c.before program) can.text can.there (h.0 can.told)
+link_stops c s program status.ReadFault text can h = can.no_load h.0
+link_stops c s program status.ProgramRefused text can h =
+    let same = same_some (c.before program) h.text can.text (h.loaded can.told) can.there in
+    never (linked can.text) can.of_program h.refuses.fault can.links (subst (λ (t : List ℕ). linked t ≡ Err h.refuses.fault) same h.refuses.refused)
+link_stops c s program status.Ok text can h = h
+link_stops c s program status.Usage text can h = h
+link_stops c s program status.LogRefused text can h = h
+link_stops c s program status.Diverged text can h = h
+link_stops c s program status.WriteFault text can h = h
+link_stops c s program status.OutOfMemory text can h = h
+
+check_done : (c : FolderCall) (s : SinkCall) (program : List ℕ) (answer : Status) → CanCheck c s program → Answers (Check program) c s answer → IsDone answer
+check_done c s program status.Ok can a = inl refl
+check_done c s program status.OutOfMemory can a = inr refl
+check_done c s program status.WriteFault can a = absurd (⊎_elim (λ l. l.0) (λ l. can.no_put l.lost.fault) a)
+check_done c s program status.Usage can a = absurd a.tells.1
+check_done c s program status.Absent can a = absurd (link_stops c s program status.Absent a.text can a.tells.1)
+check_done c s program status.ReadFault can a = absurd (link_stops c s program status.ReadFault a.text can a.tells.1)
+check_done c s program status.ProgramRefused can a = absurd (link_stops c s program status.ProgramRefused a.text can a.tells.1)
+check_done c s program status.LogRefused can a = absurd a.tells.1
+check_done c s program status.Diverged can a = absurd a.tells.1
+
 pub is_complete : (asked : Request) (c : FolderCall) (s : SinkCall) (answer : Status) → Answers asked c s answer → IsComplete asked c s answer
+is_complete (Check program) c s answer a = λ can. check_done c s program answer can a
 is_complete (Record program log) c s answer a = λ can. record_done c s program log answer can a
 is_complete (Replay program log) c s answer a = λ can. replay_done c s program log answer can a
 is_complete Unknown c s answer a = λ can. absurd can

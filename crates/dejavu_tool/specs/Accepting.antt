@@ -1,18 +1,67 @@
 -- Which texts are programs.
 use Rattle.std.specs.Prelude.{◌≡◌, ℕ, List, length, nat_lt, if◌then◌else◌, Result, Ok, Err}
 use Rattle.vm_model.specs.Program.{PlainProgram}
-use Rattle.first_stage.specs.Reading.{reading}
+use Rattle.jasmin_text.specs.declared.token.Token.{Token}
+use Rattle.jasmin_text.specs.Texts.{Spoiled, tokens_of}
+use Rattle.jasmin_reader.specs.declared.fault.ReadKind.TheVariants.{TooMany}
+use Rattle.jasmin_reader.specs.declared.fault.Refusal as read
+use Rattle.jasmin_reader.specs.Plain.{PlainClassText}
+use Rattle.jasmin_reader.specs.Reading.{reading}
+use Rattle.class_linker.specs.declared.fault.Refusal as link
+use Rattle.class_linker.specs.Linking.{linking}
+use Rattle.first_stage.specs.Reading as stage
 use Rattle.dejavu_tool.specs.declared.programs.ProgramFault.{ProgramFault}
 use Rattle.dejavu_tool.specs.declared.programs.ProgramFault.TheVariants as fault
 
--- the program of a text, or the line that isn't accepted; a text above 1,048,576 bytes isn't read at all
-abbrev pub accepting : List ℕ → Result PlainProgram ℕ
-accepting text = if nat_lt 1048576 (length text) then Err 0 else reading text
+-- ---- tokens, then classes, then links: each is judged where the one before has no fault
+
+abbrev pub by_link : Result PlainProgram link.Refusal → Result PlainProgram ProgramFault
+by_link (Ok p) = Ok p
+by_link (Err r) = Err (fault.Link r.kind r.line)
+
+abbrev pub by_classes : Result (List PlainClassText) read.Refusal → Result PlainProgram ProgramFault
+by_classes (Ok classes) = by_link (linking classes)
+by_classes (Err r) = Err (fault.Read r.kind r.line)
+
+abbrev pub by_tokens : List ℕ → Result (List Token) Spoiled → Result PlainProgram ProgramFault
+by_tokens text (Ok tokens) = by_classes (reading text tokens)
+by_tokens text (Err s) = Err (fault.Text s.kind s.line s.column)
+
+-- the linked program of a text, or its first fault; a text above 1,048,576 bytes isn't read at all
+unfoldable pub linked : List ℕ → Result PlainProgram ProgramFault
+linked text = if nat_lt 1048576 (length text) then Err (fault.Read TooMany 0) else by_tokens text (tokens_of text)
+
+-- ---- the first stage, judged last
+
+abbrev pub as_yet : Result PlainProgram ℕ → Result PlainProgram ProgramFault
+as_yet (Ok p) = Ok p
+as_yet (Err line) = Err (fault.NotYet line)
+
+abbrev pub runnable : List ℕ → Result PlainProgram ProgramFault → Result PlainProgram ProgramFault
+runnable text (Ok p) = as_yet (stage.reading text)
+runnable text (Err f) = Err f
+
+-- the program of a text, or why it isn't accepted
+unfoldable pub accepting : List ℕ → Result PlainProgram ProgramFault
+accepting text = runnable text (linked text)
 
 abbrev pub IsAccepted : List ℕ → PlainProgram → Type 0
 IsAccepted text p = accepting text ≡ Ok p
 
+-- ---- answers
+
 -- why there is no program
+abbrev pub Fails : Result PlainProgram ProgramFault → ProgramFault → Type 0
+Fails answer (fault.Text kind line column) = answer ≡ Err (fault.Text kind line column)
+Fails answer (fault.Read kind line) = answer ≡ Err (fault.Read kind line)
+Fails answer (fault.Link kind line) = answer ≡ Err (fault.Link kind line)
+Fails answer (fault.NotYet line) = answer ≡ Err (fault.NotYet line)
+Fails answer fault.NoMemory = Unit {0}
+
 abbrev pub Refuses : List ℕ → ProgramFault → Type 0
-Refuses text (fault.NotYet line) = accepting text ≡ Err line
-Refuses text fault.NoMemory = Unit {0}
+Refuses text f = Fails (accepting text) f
+
+-- a program, or why there is none
+abbrev pub Gives : Result PlainProgram ProgramFault → Result PlainProgram ProgramFault → Type 0
+Gives (Ok p) answer = answer ≡ Ok p
+Gives (Err f) answer = Fails answer f

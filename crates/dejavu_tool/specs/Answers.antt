@@ -1,5 +1,5 @@
 -- What each status of a command says.
-use Rattle.std.specs.Prelude.{◌≡◌, ℕ, List, [], length, IsTrue, Err, Option, Some, ◌⊎◌}
+use Rattle.std.specs.Prelude.{◌≡◌, ℕ, List, [], length, IsTrue, Ok, Err, Option, Some, ◌⊎◌}
 use Rattle.tool_io.specs.Outside.{SameButOne, SetsFile}
 use Rattle.vm_model.specs.declared.ends.End.{End}
 use Rattle.vm_model.specs.Ends.{kind_of_end}
@@ -16,10 +16,12 @@ use Rattle.thread_driver.specs.Recordings.{Diverges}
 use Rattle.report_writer.specs.Texts.{run_text}
 use Rattle.dejavu_tool.specs.declared.status.Status.{Status}
 use Rattle.dejavu_tool.specs.declared.status.Status.TheVariants as status
-use Rattle.dejavu_tool.specs.Accepting.{accepting, IsAccepted}
+use Rattle.dejavu_tool.specs.declared.programs.ProgramFault.{ProgramFault}
+use Rattle.dejavu_tool.specs.Accepting.{accepting, linked, IsAccepted}
+use Rattle.dejavu_tool.specs.Checking.{check_text}
 use Rattle.dejavu_tool.specs.Calls.{FolderCall, SinkCall, Loads, Misses, LoadFails, StoreFails, IsUntouched, Puts, PutsNothing, PutFails}
-use Rattle.dejavu_tool.specs.Commands.{Request, Record, Replay, Unknown}
-use Rattle.dejavu_tool.specs.Lines.{usage_line, absent_line, read_fault_line, not_yet_line, log_refused_line, diverged_line}
+use Rattle.dejavu_tool.specs.Commands.{Request, Check, Record, Replay, Unknown}
+use Rattle.dejavu_tool.specs.Lines.{usage_line, absent_line, read_fault_line, refused_line, log_refused_line, diverged_line}
 
 -- ---- runs
 
@@ -54,11 +56,17 @@ pub record LoadsLog (c : FolderCall) (name : List ℕ) (log : PlainLog) : Type 0
   pub loaded : Loads c name bytes
   pub spelled : Spells log bytes
 
--- the line of a text that isn't accepted
+-- why a text isn't accepted
 pub record RefusesText (text printed : List ℕ) : Type 0 where
-  pub line : ℕ
-  pub refused : accepting text ≡ Err line
-  pub prints : printed ≡ not_yet_line line
+  pub fault : ProgramFault
+  pub refused : accepting text ≡ Err fault
+  pub prints : printed ≡ refused_line fault
+
+-- why a text isn't linked
+pub record RefusesLink (text printed : List ℕ) : Type 0 where
+  pub fault : ProgramFault
+  pub refused : linked text ≡ Err fault
+  pub prints : printed ≡ refused_line fault
 
 -- the first fault of bytes that spell no log
 pub record RefusesBytes (bytes printed : List ℕ) : Type 0 where
@@ -94,6 +102,32 @@ ProgramStops c name status.Absent printed = Misses c name × (printed ≡ absent
 ProgramStops c name status.ReadFault printed = LoadFails c × (printed ≡ read_fault_line name)
 ProgramStops c name status.ProgramRefused printed = RefusesProgram c name printed
 ProgramStops c name _ printed = ⊥
+
+-- the file of this name has a text that isn't linked
+pub record StopsAtLink (c : FolderCall) (name printed : List ℕ) : Type 0 where
+  pub text : List ℕ
+  pub loaded : Loads c name text
+  pub refuses : RefusesLink text printed
+
+-- the file leads to no linked program
+abbrev pub LinkStops : FolderCall → List ℕ → Status → List ℕ → Type 0
+LinkStops c name status.Absent printed = Misses c name × (printed ≡ absent_line name)
+LinkStops c name status.ReadFault printed = LoadFails c × (printed ≡ read_fault_line name)
+LinkStops c name status.ProgramRefused printed = StopsAtLink c name printed
+LinkStops c name _ printed = ⊥
+
+-- the file of this name has the text of a linked program
+pub record LoadsLinked (c : FolderCall) (name : List ℕ) (p : PlainProgram) : Type 0 where
+  pub text : List ℕ
+  pub loaded : Loads c name text
+  pub links : linked text ≡ Ok p
+
+-- a check: no file changes, and the counts of the program are printed
+pub record Checks (c : FolderCall) (program printed : List ℕ) : Type 0 where
+  pub of_program : PlainProgram
+  pub loads : LoadsLinked c program of_program
+  pub prints : printed ≡ check_text of_program
+  pub untouched : IsUntouched c
 
 -- the file of the log leads to no log
 abbrev pub LogStops : FolderCall → List ℕ → Status → List ℕ → Type 0
@@ -138,6 +172,11 @@ pub record StopsAtRun (c : FolderCall) (program log : List ℕ) (status : Status
   pub loads_log : LoadsLog c log of_log
   pub stops : RunStops of_program of_log status printed
 
+-- why `check` ended with this status, and what it prints
+abbrev pub CheckTells : FolderCall → List ℕ → Status → List ℕ → Type 0
+CheckTells c program status.Ok printed = Checks c program printed
+CheckTells c program status printed = IsUntouched c × LinkStops c program status printed
+
 -- why `record` or `replay` ended with this status, and what it prints
 abbrev pub RecordTells : FolderCall → List ℕ → List ℕ → Status → List ℕ → Type 0
 RecordTells c program log status.Ok printed = Records c program log printed
@@ -154,6 +193,7 @@ UnknownTells c _ printed = ⊥
 
 -- why what was asked for ended with this status, and what it prints
 abbrev pub Tells : Request → FolderCall → Status → List ℕ → Type 0
+Tells (Check program) c status printed = CheckTells c program status printed
 Tells (Record program log) c status printed = RecordTells c program log status printed
 Tells (Replay program log) c status printed = ReplayTells c program log status printed
 Tells Unknown c status printed = UnknownTells c status printed

@@ -2,6 +2,7 @@ pub mod Statuses
 pub mod Commands
 pub mod Lines
 pub mod Accepting
+pub mod Checking
 pub mod Calls
 pub mod Answers
 pub mod Stages

@@ -1,6 +1,7 @@
 //! The tool: what each command does, over a folder and a sink.
 #![tactic(auto)]
 
+mod checking;
 mod halt;
 pub mod laws;
 mod lines;
@@ -12,7 +13,7 @@ mod status;
 mod top;
 mod words;
 
-pub use programs::{ProgramFault, accept};
+pub use programs::{ProgramFault, accept, linked_program};
 pub use status::Status;
 pub use top::dejavu;
 

@@ -1,6 +1,7 @@
-ghost use Rattle.std.specs.Prelude.{◌≡◌, ◌++◌, List, ℕ, IfOk, OnOk, decimal};
+ghost use Rattle.std.specs.Prelude.{◌≡◌, ◌++◌, ◌∷◌, [], List, ℕ, IfOk, OnOk, decimal};
 ghost use Rattle.dejavu_tool.specs.Lines as spec;
 
+use crate::programs::ProgramFault;
 use itoa::Buffer;
 use std::alloc::Global;
 use vm_model::NoMemory;
@@ -42,13 +43,62 @@ pub fn read_fault(alloc: Global, name: &str) -> Result<Vec<u8>, NoMemory>
     named(alloc, b"read fault ", name)
 }
 
-pub fn not_yet(alloc: Global, number: u32) -> Result<Vec<u8>, NoMemory>
+fn not_yet(alloc: Global, number: u32) -> Result<Vec<u8>, NoMemory>
     ensures { IfOk result (λ line. line.items ≡ spec.not_yet_line number) }
 {
     let mut out = Vec::from_slice(alloc, b"program refused: not yet line ")?;
     put_number(&mut out, number as u64)?;
     out.push(10)?;
     Ok(out)
+}
+
+/// The number of a fault, and its line.
+fn put_fault(out: &mut Vec<u8>, word: &[u8], kind: u8, line: u32) -> Result<(), NoMemory>
+    ensures { OnOk result (out.new.items ≡ out.old.items ++ spec.fault_at word.now kind line) }
+{
+    out.extend_from_slice(word)?;
+    put_number(out, kind as u64)?;
+    out.extend_from_slice(b" line ")?;
+    put_number(out, line as u64)
+}
+
+/// A line of a fault with its line.
+fn fault_line(alloc: Global, word: &[u8], kind: u8, line: u32) -> Result<Vec<u8>, NoMemory>
+    ensures { IfOk result (λ text. text.items ≡ spec.fault_at word.now kind line ++ 10 ∷ []) }
+{
+    let mut out = Vec::new(alloc);
+    put_fault(&mut out, word, kind, line)?;
+    out.push(10)?;
+    Ok(out)
+}
+
+fn text_line(alloc: Global, kind: u8, line: u32, column: u32) -> Result<Vec<u8>, NoMemory>
+    ensures { IfOk result (λ text. text.items ≡ spec.text_line kind line column) }
+{
+    let mut out = Vec::new(alloc);
+    put_fault(&mut out, b"program refused: text ", kind, line)?;
+    out.extend_from_slice(b" column ")?;
+    put_number(&mut out, column as u64)?;
+    out.push(10)?;
+    Ok(out)
+}
+
+/// Why a text is no program.
+#[tactic(auto, unfolding(crate::specs::Lines::refused_line))]
+pub fn refused(alloc: Global, fault: ProgramFault) -> Result<Vec<u8>, NoMemory>
+    ensures { IfOk result (λ line. line.items ≡ spec.refused_line fault) }
+{
+    match fault {
+        ProgramFault::Text { kind, line, column } => text_line(alloc, kind.number(), line, column),
+        ProgramFault::Read { kind, line } => {
+            fault_line(alloc, b"program refused: read ", kind.number(), line)
+        }
+        ProgramFault::Link { kind, line } => {
+            fault_line(alloc, b"program refused: link ", kind.number(), line)
+        }
+        ProgramFault::NotYet { line } => not_yet(alloc, line),
+        ProgramFault::NoMemory => Ok(Vec::new(alloc)),
+    }
 }
 
 pub fn log_refused(alloc: Global, kind: u8, offset: u64) -> Result<Vec<u8>, NoMemory>

@@ -1,21 +1,21 @@
 //! The files of a command.
 
-ghost use Rattle.std.specs.Prelude.{◌≡◌, None, IfOk, IfErr};
+ghost use Rattle.std.specs.Prelude.{◌≡◌, None, IfOk, IfErr, Ok as OkOf};
 ghost use Rattle.machine_model.specs.Machine.{end_of, start_machine};
 ghost use Rattle.schedule_log.specs.Spelling.{Spells};
-ghost use Rattle.dejavu_tool.specs.Accepting.{IsAccepted};
-ghost use Rattle.dejavu_tool.specs.Answers.{LoadsLog, LoadsProgram};
+ghost use Rattle.dejavu_tool.specs.Accepting.{IsAccepted, linked};
+ghost use Rattle.dejavu_tool.specs.Answers.{LoadsLinked, LoadsLog, LoadsProgram};
 ghost use Rattle.dejavu_tool.specs.Calls.{folder_call, Loads};
-ghost use Rattle.dejavu_tool.specs.Stages.{BytesHalt, FileHalts, LogHalts, OnlyReads, ProgramHalts, TextHalts};
+ghost use Rattle.dejavu_tool.specs.Stages.{BytesHalt, FileHalts, IsRefusal, LinkHalts, LinkedHalts, LogHalts, OnlyReads, ProgramHalts, TextHalts};
 
 use crate::halt::Halt;
 use crate::lines;
-use crate::programs::{ProgramFault, accept};
+use crate::programs::{ProgramFault, accept, linked_program};
 use crate::status::Status;
 use schedule_log::{Log, LogFault, decode};
 use std::alloc::Global;
 use tool_io::{Folder, Load};
-use vm_model::Plain;
+use vm_model::{NoMemory, Plain, Program};
 
 /// The bytes of a file.
 fn load_file<F: Folder>(alloc: Global, name: &str, folder: &mut F) -> Result<Vec<u8>, Halt>
@@ -32,6 +32,16 @@ fn load_file<F: Folder>(alloc: Global, name: &str, folder: &mut F) -> Result<Vec
     }
 }
 
+/// What a command is told of a text that is no program.
+fn refusal(alloc: Global, fault: ProgramFault) -> Result<Halt, NoMemory>
+    ensures { IfOk result (IsRefusal fault) }
+{
+    match fault {
+        ProgramFault::NoMemory => Ok(Halt::Memory),
+        _ => Ok(Halt::Told(Status::ProgramRefused, lines::refused(alloc, fault)?)),
+    }
+}
+
 /// The program of a text.
 fn program_of(alloc: Global, text: &[u8]) -> Result<Plain, Halt>
     ensures accepted { IfOk result (λ p. IsAccepted text.now p) }
@@ -40,11 +50,18 @@ fn program_of(alloc: Global, text: &[u8]) -> Result<Plain, Halt>
 {
     match accept(alloc, text) {
         Ok(plain) => Ok(plain),
-        Err(ProgramFault::NotYet { line }) => Err(Halt::Told(
-            Status::ProgramRefused,
-            lines::not_yet(alloc, line)?,
-        )),
-        Err(ProgramFault::NoMemory) => Err(Halt::Memory),
+        Err(fault) => Err(refusal(alloc, fault)?),
+    }
+}
+
+/// The linked program of a text.
+fn linked_of(alloc: Global, text: &[u8]) -> Result<Program, Halt>
+    ensures links { IfOk result (λ p. linked text.now ≡ OkOf p) }
+    ensures halts { IfErr result (LinkHalts text.now) }
+{
+    match linked_program(alloc, text) {
+        Ok(program) => Ok(program),
+        Err(fault) => Err(refusal(alloc, fault)?),
     }
 }
 
@@ -73,6 +90,17 @@ pub fn load_program<F: Folder>(alloc: Global, name: &str, folder: &mut F) -> Res
 {
     let text = load_file(alloc, name, folder)?;
     program_of(alloc, &text)
+}
+
+/// The linked program of a file.
+pub fn load_linked<F: Folder>(alloc: Global, name: &str, folder: &mut F) -> Result<Program, Halt>
+    ensures told { F.is_told folder.new ≡ F.is_told folder.old }
+    ensures reads { OnlyReads (folder_call F.is_told F.file F.load_faults F.store_faults folder.old folder.new) }
+    ensures loads { IfOk result (LoadsLinked (folder_call F.is_told F.file F.load_faults F.store_faults folder.old folder.new) name.now) }
+    ensures halts { IfErr result (LinkedHalts (folder_call F.is_told F.file F.load_faults F.store_faults folder.old folder.new) name.now) }
+{
+    let text = load_file(alloc, name, folder)?;
+    linked_of(alloc, &text)
 }
 
 /// The log of a file.

@@ -1,34 +1,110 @@
-ghost use Rattle.std.specs.Prelude.{◌≡◌, IfOk, IfErr, None};
+ghost use Rattle.std.specs.Prelude.{◌≡◌, ◌≤◌, IfOk, IfErr, None, Ok, length};
+ghost use Rattle.class_linker.specs.Linking.{linking};
+ghost use Rattle.jasmin_reader.specs.Reading.{reading};
+ghost use Rattle.jasmin_text.specs.Texts.{tokens_of};
 ghost use Rattle.machine_model.specs.Machine.{end_of, start_machine};
 ghost use Rattle.vm_model.specs.Plain.{IsPlain};
-ghost use Rattle.dejavu_tool.specs.Accepting.{IsAccepted, Refuses};
+ghost use Rattle.dejavu_tool.specs.Accepting.{Gives, IsAccepted, Refuses, by_classes, by_link, by_tokens, linked};
 
+use class_linker::{LinkFault, LinkKind, link};
 use first_stage::{PlainFault, read_plain};
+use jasmin_reader::{ClassText, ReadFault, ReadKind, read_classes};
+use jasmin_text::{TextFault, TextKind, Token, tokens};
 use std::alloc::Global;
-use vm_model::Plain;
+use vm_model::{Plain, Program};
 
 /// The greatest size of a program's text, in bytes.
 const MOST_TEXT: usize = 1_048_576;
 
-/// Why a text is not accepted. Nothing is left behind.
+/// Why a text is not accepted. Nothing is left behind. Lines and columns count from 1, columns in bytes.
 #[derive(Clone, Copy, Debug, PartialEq, Eq)]
 pub enum ProgramFault {
-    /// The least line that this tool can't run yet, counted from 1; 0 where the text has no `main` and no such line, and where
-    /// it has more than 1,048,576 bytes.
-    NotYet { line: u32 },
+    /// The first fault of the text's bytes.
+    Text {
+        kind: TextKind,
+        line: u32,
+        column: u32,
+    },
+    /// The first line that breaks the grammar, and the least of its faults; TooMany at line 0 for a text of more than 1,048,576
+    /// bytes.
+    Read {
+        kind: ReadKind,
+        line: u32,
+    },
+    /// The first fault of names, descriptors, limits and the profile.
+    Link {
+        kind: LinkKind,
+        line: u32,
+    },
+    /// The least line that this tool can't run yet.
+    NotYet {
+        line: u32,
+    },
     /// Memory was not found; the text may be a program.
     NoMemory,
 }
 
-/// The program of a text in Jasmin's form, of at most 1,048,576 bytes. An accepted program makes an event.
+fn link_classes(alloc: Global, classes: &[ClassText]) -> Result<Program, ProgramFault>
+    ensures { Gives result (by_link (linking classes.now)) }
+{
+    match link(alloc, classes) {
+        Ok(program) => Ok(program),
+        Err(LinkFault::At { kind, line }) => Err(ProgramFault::Link { kind, line }),
+        Err(LinkFault::NoMemory) => Err(ProgramFault::NoMemory),
+    }
+}
+
+fn link_tokens(alloc: Global, text: &[u8], tokens: &[Token]) -> Result<Program, ProgramFault>
+    requires { tokens_of text.now ≡ Ok tokens.now }
+    ensures { Gives result (by_classes (reading text.now tokens.now)) }
+{
+    match read_classes(alloc, text, tokens) {
+        Ok(classes) => link_classes(alloc, &classes),
+        Err(ReadFault::At { kind, line }) => Err(ProgramFault::Read { kind, line }),
+        Err(ReadFault::NoMemory) => Err(ProgramFault::NoMemory),
+    }
+}
+
+fn link_text(alloc: Global, text: &[u8]) -> Result<Program, ProgramFault>
+    requires { length text.now ≤ 1048576 }
+    ensures { Gives result (by_tokens text.now (tokens_of text.now)) }
+{
+    match tokens(alloc, text) {
+        Ok(found) => link_tokens(alloc, text, &found),
+        Err(TextFault::At { kind, line, column }) => Err(ProgramFault::Text { kind, line, column }),
+        Err(TextFault::NoMemory) => Err(ProgramFault::NoMemory),
+    }
+}
+
+/// The linked program of a text of the whole language.
+#[tactic(auto, unfolding(crate::specs::Accepting::linked))]
+pub fn linked_program(alloc: Global, text: &[u8]) -> Result<Program, ProgramFault>
+    ensures gives { Gives result (linked text.now) }
+    ensures small { IfOk result (λ _. length text.now ≤ 1048576) }
+{
+    if text.len() > MOST_TEXT {
+        return Err(ProgramFault::Read {
+            kind: ReadKind::TooMany,
+            line: 0,
+        });
+    }
+    link_text(alloc, text)
+}
+
+/// The program of a text in Jasmin's form, of at most 1,048,576 bytes, that this tool can run. An accepted program makes an
+/// event.
+///
+/// The text's bytes are judged first, then its grammar, then its names, and last whether it is one of the first stage.
+#[tactic(auto, unfolding(crate::specs::Accepting::accepting))]
 pub fn accept(alloc: Global, text: &[u8]) -> Result<Plain, ProgramFault>
     ensures accepted { IfOk result (λ p. IsAccepted text.now p) }
     ensures plain { IfOk result IsPlain }
     ensures refused { IfErr result (Refuses text.now) }
     ensures begins { IfOk result (λ p. end_of p (start_machine p) 1048576 ≡ None) }
 {
-    if text.len() > MOST_TEXT {
-        return Err(ProgramFault::NotYet { line: 0 });
+    match linked_program(alloc, text) {
+        Ok(_) => {}
+        Err(fault) => return Err(fault),
     }
     match read_plain(alloc, text) {
         Ok(plain) => Ok(plain),

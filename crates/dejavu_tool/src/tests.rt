@@ -23,6 +23,10 @@ const SUM_TEXT: &[u8] = b"events 23\nintervals 1\nend done\noutput 3\n55\n";
 
 const SHORTEST_TEXT: &[u8] = b"events 1\nintervals 1\nend done\noutput 0\n";
 
+/// A program that is linked, and that this tool can't run yet: line 6.
+const DIVISION: &[u8] =
+    b".class A\n.super java/lang/Object\n.method public static main([Ljava/lang/String;)V\niconst_1\niconst_1\nidiv\npop\nreturn\n.end method\n";
+
 /// A folder with this program as P, where there is one.
 fn folder_of(alloc: Global, program: Option<&[u8]>, failing: &[u64]) -> Result<MemoryFolder, Fail> {
     let mut files = Vec::new(alloc);
@@ -111,9 +115,10 @@ fn programs_are_recorded(rt: HostRuntime) -> Result<(), Fail> {
 fn records_are_refused(rt: HostRuntime) -> Result<(), Fail> {
     let alloc = rt.alloc();
     let long = vec![in alloc; 10; 1_048_577]?;
-    let none = b"program refused: not yet line 0\n";
+    let none = b"program refused: link 1 line 0\n";
+    let many = b"program refused: read 11 line 0\n";
     assert!(rt; records(alloc, Some(b""), &[], Status::ProgramRefused, none, None)?);
-    assert!(rt; records(alloc, Some(&long), &[], Status::ProgramRefused, none, None)?);
+    assert!(rt; records(alloc, Some(&long), &[], Status::ProgramRefused, many, None)?);
     assert!(rt; records(alloc, None, &[], Status::Absent, b"absent P\n", None)?);
     assert!(rt;
         records(
@@ -128,8 +133,8 @@ fn records_are_refused(rt: HostRuntime) -> Result<(), Fail> {
     assert!(rt; records(alloc, Some(SUM), &[1], Status::WriteFault, b"", None)?);
     assert!(rt;
         matches!(
-            accept(alloc, b".class A\nidiv\n"),
-            Err(ProgramFault::NotYet { line: 2 })
+            accept(alloc, DIVISION),
+            Err(ProgramFault::NotYet { line: 6 })
         )
     );
     assert!(rt; accept(alloc, SUM).is_ok());
@@ -299,7 +304,7 @@ fn replays_are_refused(rt: HostRuntime) -> Result<(), Fail> {
             b"\x44\x4B",
             &[],
             Status::ProgramRefused,
-            b"program refused: not yet line 0\n"
+            b"program refused: link 1 line 0\n"
         )?
     );
     assert!(rt;
@@ -369,5 +374,58 @@ fn budgets(rt: HostRuntime) -> Result<(), Fail> {
     assert!(rt; ends(alloc, SUM, 21, End::Spent, 21, b"")?);
     assert!(rt; ends(alloc, SHORTEST, 1, End::Done, 1, b"")?);
     assert!(rt; ends(alloc, TURNING, 3, End::Spent, 3, b"")?);
+    Ok(())
+}
+
+/// The same of `check P`.
+fn checks(
+    alloc: Global,
+    program: Option<&[u8]>,
+    failing: &[u64],
+    status: Status,
+    text: &[u8],
+) -> Result<bool, Fail> {
+    let mut folder = folder_of(alloc, program, failing)?;
+    gives(alloc, &["check", "P"], &mut folder, status, text, None)
+}
+
+#[test]
+fn programs_are_checked(rt: HostRuntime) -> Result<(), Fail> {
+    let alloc = rt.alloc();
+    let sum = b"classes 1\nmethods 1\ninstructions 14\n";
+    let division = b"classes 1\nmethods 1\ninstructions 5\n";
+    let spoiled = b"program refused: text 1 line 1 column 8\n";
+    let fault = b"read fault P\n";
+    assert!(rt; checks(alloc, Some(SUM), &[], Status::Ok, sum)?);
+    assert!(rt; checks(alloc, Some(DIVISION), &[], Status::Ok, division)?);
+    assert!(rt;
+        checks(
+            alloc,
+            Some(b".class \xC3\xA9"),
+            &[],
+            Status::ProgramRefused,
+            spoiled
+        )?
+    );
+    assert!(rt;
+        checks(
+            alloc,
+            Some(b".class A\na.b\n"),
+            &[],
+            Status::ProgramRefused,
+            b"program refused: read 3 line 2\n"
+        )?
+    );
+    assert!(rt;
+        checks(
+            alloc,
+            Some(b""),
+            &[],
+            Status::ProgramRefused,
+            b"program refused: link 1 line 0\n"
+        )?
+    );
+    assert!(rt; checks(alloc, None, &[], Status::Absent, b"absent P\n")?);
+    assert!(rt; checks(alloc, Some(SUM), &[0], Status::ReadFault, fault)?);
     Ok(())
 }

@@ -7,6 +7,7 @@ ghost use Rattle.dejavu_tool.specs.Completeness.{IsComplete};
 ghost use Rattle.dejavu_tool.specs.Headline.{RecordingHolds, ReplayHolds};
 ghost use Rattle.dejavu_tool.specs.Stages.{Halts, PutsUnlessFault, UsageHalts};
 
+use crate::checking::check_file;
 use crate::halt::Halt;
 use crate::lines;
 use crate::recording::record_file;
@@ -30,6 +31,7 @@ fn done<F: Folder>(alloc: Global, command: Command, folder: &mut F) -> Result<Ve
     ensures halts { IfErr result (Halts (plain_command command.entry) (folder_call F.is_told F.file F.load_faults F.store_faults folder.old folder.new)) }
 {
     match command {
+        Command::Check { program } => check_file(alloc, program, folder),
         Command::Record { program, log } => record_file(alloc, program, log, folder),
         Command::Replay { program, log } => replay_file(alloc, program, log, folder),
         Command::Unknown => unknown(alloc),
