@@ -440,3 +440,58 @@ fn whole_program(rt: HostRuntime) -> Result<(), Fail> {
     assert!(rt; program.instr_at(2, 6) == Some(Instr::RunOf(2)));
     Ok(())
 }
+
+/// So many fields with these flags.
+fn fields(alloc: Global, flags: &str, count: u32) -> Result<String, NoMemory> {
+    let mut text = String::new(alloc);
+    for number in 0..count {
+        let line = format!(in alloc; ".field {flags} x{number} I\n")?;
+        text.push_str(&line)?;
+    }
+    Ok(text)
+}
+
+fn methods(alloc: Global, count: u32) -> Result<String, NoMemory> {
+    let mut text = String::new(alloc);
+    for number in 0..count {
+        let method = format!(in alloc; ".method m{number}()V\n.end method\n")?;
+        text.push_str(&method)?;
+    }
+    Ok(text)
+}
+
+/// So many classes behind one with a main.
+fn classes(alloc: Global, count: u32) -> Result<String, NoMemory> {
+    let mut text = with_members(alloc, "")?;
+    for number in 0..count {
+        let class = format!(in alloc; ".class B{number}\n.super java/lang/Thread\n")?;
+        text.push_str(&class)?;
+    }
+    Ok(text)
+}
+
+#[test]
+fn limits_of_fields(rt: HostRuntime) -> Result<(), Fail> {
+    let alloc = rt.alloc();
+    let most = with_members(alloc, &fields(alloc, "public", 64)?)?;
+    assert!(rt; fault_of(alloc, &most)? == None);
+    let more = with_members(alloc, &fields(alloc, "public", 65)?)?;
+    assert!(rt; fault_of(alloc, &more)? == Some((8, 67)));
+    let most = with_members(alloc, &fields(alloc, "static", 1024)?)?;
+    assert!(rt; fault_of(alloc, &most)? == None);
+    let more = with_members(alloc, &fields(alloc, "static", 1025)?)?;
+    assert!(rt; fault_of(alloc, &more)? == Some((8, 1027)));
+    Ok(())
+}
+
+#[test]
+fn limits_of_methods_and_classes(rt: HostRuntime) -> Result<(), Fail> {
+    let alloc = rt.alloc();
+    let most = with_members(alloc, &methods(alloc, 1023)?)?;
+    assert!(rt; fault_of(alloc, &most)? == None);
+    let more = with_members(alloc, &methods(alloc, 1024)?)?;
+    assert!(rt; fault_of(alloc, &more)? == Some((8, 2051)));
+    assert!(rt; fault_of(alloc, &classes(alloc, 255)?)? == None);
+    assert!(rt; fault_of(alloc, &classes(alloc, 256)?)? == Some((8, 516)));
+    Ok(())
+}
