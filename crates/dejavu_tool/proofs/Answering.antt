@@ -1,11 +1,11 @@
 -- What a command says, put to the sink.
-use Rattle.std.proofs.Common.{ℕ, List, sym, subst, IsTrue, inr, ⊎_elim}
+use Rattle.std.proofs.Common.{ℕ, List, ◌++◌, ap, sym, subst, ◌∙◌, IsTrue, inr, ⊎_elim}
 use Rattle.dejavu_tool.specs.declared.status.Status.{Status}
 use Rattle.dejavu_tool.specs.declared.status.Status.TheVariants as status
-use Rattle.dejavu_tool.specs.Answers.{Answers, Tells, Records, Replays}
+use Rattle.dejavu_tool.specs.Answers.{Answers, Checks, Tells, Records, Replays}
 use Rattle.dejavu_tool.specs.Calls.{FolderCall, SinkCall, Puts}
 use Rattle.dejavu_tool.specs.Commands.{Request, Check, Record, Replay, Unknown}
-use Rattle.dejavu_tool.specs.Headline.{RecordingHolds, ReplayHolds, IsFinishedRecording, IsFinishedReplay}
+use Rattle.dejavu_tool.specs.Headline.{CheckHolds, RecordingHolds, ReplayHolds, IsFinishedCheck, IsFinishedRecording, IsFinishedReplay}
 use Rattle.dejavu_tool.specs.Stages.{PutsUnlessFault}
 
 tells_no_fault : (asked : Request) (c : FolderCall) (text : List ℕ) → Tells asked c status.WriteFault text → ⊥
@@ -87,6 +87,23 @@ replayed_so c s program log text r p told told' = record {
   untouched = r.untouched told;
   puts = p told';
 }
+
+checked_so : (c : FolderCall) (s : SinkCall) (program text : List ℕ) → Checks c program text → Puts s text → IsTrue c.told → IsTrue s.told → IsFinishedCheck c s program
+checked_so c s program text r p told told' = record {
+  text = r.loads.text;
+  loaded = r.loads.loaded told;
+  of_program = r.of_program;
+  links = r.loads.links;
+  untouched = r.untouched told;
+  puts = p told' ∙ ap (λ (printed : List ℕ). s.before ++ printed) r.prints;
+}
+
+pub check_holds : (asked : Request) (c : FolderCall) (s : SinkCall) (answer : Status) → Answers asked c s answer → CheckHolds asked c s answer
+check_holds (Check program) c s answer a =
+    λ e told told'. let so = subst (λ (x : Status). Answers (Check program) c s x) e a in checked_so c s program so.text so.tells so.printed told told'
+check_holds (Record program log) c s answer a = tt
+check_holds (Replay program log) c s answer a = tt
+check_holds Unknown c s answer a = tt
 
 pub recording_holds : (asked : Request) (c : FolderCall) (s : SinkCall) (answer : Status) → Answers asked c s answer → RecordingHolds asked c s answer
 recording_holds (Record program log) c s answer a =

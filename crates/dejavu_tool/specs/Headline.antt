@@ -1,5 +1,5 @@
--- What a finished recording and a finished replay say, of a folder and a sink that tell what they hold.
-use Rattle.std.specs.Prelude.{◌≡◌, ℕ, List, [], ◌++◌, length, IsTrue, Option, Some}
+-- What a finished check, a finished recording and a finished replay say, of a folder and a sink that tell what they hold.
+use Rattle.std.specs.Prelude.{◌≡◌, ℕ, List, [], ◌++◌, length, IsTrue, Ok, Option, Some}
 use Rattle.tool_io.specs.Outside.{SameFiles, SetsFile}
 use Rattle.vm_model.specs.declared.ends.End.{End}
 use Rattle.vm_model.specs.Ends.{kind_of_end}
@@ -12,9 +12,10 @@ use Rattle.schedule_log.specs.Spelling.{Spells}
 use Rattle.report_writer.specs.Texts.{run_text}
 use Rattle.dejavu_tool.specs.declared.status.Status.{Status}
 use Rattle.dejavu_tool.specs.declared.status.Status.TheVariants as status
-use Rattle.dejavu_tool.specs.Accepting.{IsAccepted}
+use Rattle.dejavu_tool.specs.Accepting.{IsAccepted, linked}
+use Rattle.dejavu_tool.specs.Checking.{check_text}
 use Rattle.dejavu_tool.specs.Calls.{FolderCall, SinkCall}
-use Rattle.dejavu_tool.specs.Commands.{Request, Record, Replay}
+use Rattle.dejavu_tool.specs.Commands.{Request, Check, Record, Replay}
 
 -- The bytes under LOG spell one log. It tiles the run's events, and its threads lead the accepted program of the text under P
 -- to a machine with an end of the log's kind. What is printed is that run: its numbers of events and intervals, its end and
@@ -52,6 +53,19 @@ pub record IsFinishedReplay (c : FolderCall) (s : SinkCall) (program log : List 
   pub run : IsRunOfFiles c.before c.before program log printed
   pub untouched : SameFiles c.before c.after
   pub puts : s.after ≡ s.before ++ printed
+
+-- The text under P is that of a linked program, whose counts are printed. No file changed.
+pub record IsFinishedCheck (c : FolderCall) (s : SinkCall) (program : List ℕ) : Type 0 where
+  pub text : List ℕ
+  pub loaded : c.before program ≡ Some text
+  pub of_program : PlainProgram
+  pub links : linked text ≡ Ok of_program
+  pub untouched : SameFiles c.before c.after
+  pub puts : s.after ≡ s.before ++ check_text of_program
+
+abbrev pub CheckHolds : Request → FolderCall → SinkCall → Status → Type 0
+CheckHolds (Check program) c s answer = answer ≡ status.Ok → IsTrue c.told → IsTrue s.told → IsFinishedCheck c s program
+CheckHolds _ c s answer = Unit {0}
 
 abbrev pub RecordingHolds : Request → FolderCall → SinkCall → Status → Type 0
 RecordingHolds (Record program log) c s answer = answer ≡ status.Ok → IsTrue c.told → IsTrue s.told → IsFinishedRecording c s program log

@@ -4,7 +4,7 @@ ghost use Rattle.dejavu_tool.specs.Answers.{Answers, Tells};
 ghost use Rattle.dejavu_tool.specs.Calls.{folder_call, sink_call};
 ghost use Rattle.dejavu_tool.specs.Commands.{command_of, plain_command};
 ghost use Rattle.dejavu_tool.specs.Completeness.{IsComplete};
-ghost use Rattle.dejavu_tool.specs.Headline.{RecordingHolds, ReplayHolds};
+ghost use Rattle.dejavu_tool.specs.Headline.{CheckHolds, RecordingHolds, ReplayHolds};
 ghost use Rattle.dejavu_tool.specs.Stages.{Halts, PutsUnlessFault, UsageHalts};
 
 use crate::checking::check_file;
@@ -74,6 +74,8 @@ pub fn dejavu<F: Folder, O: Sink>(
     folder: &mut F,
     out: &mut O,
 ) -> Status
+    // A finished check.
+    ensures check { CheckHolds (command_of (map string_bytes words.now)) (folder_call F.is_told F.file F.load_faults F.store_faults folder.old folder.new) (sink_call O.is_told O.taken O.faults out.old out.new) result }
     // A finished recording.
     ensures recording { RecordingHolds (command_of (map string_bytes words.now)) (folder_call F.is_told F.file F.load_faults F.store_faults folder.old folder.new) (sink_call O.is_told O.taken O.faults out.old out.new) result }
     // A finished replay.

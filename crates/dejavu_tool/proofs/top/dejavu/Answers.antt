@@ -1,7 +1,10 @@
 -- The headline and completeness follow from what each status says.
-use Rattle.dejavu_tool.proofs.Answering.{recording_holds, replay_holds}
+use Rattle.dejavu_tool.proofs.Answering.{check_holds, recording_holds, replay_holds}
 use Rattle.dejavu_tool.proofs.Completing.{is_complete}
 use Rattle.dejavu_tool.proofs.top.dejavu.Goals as goal
+
+pub returns-clause-check : goal.returns-clause-check
+returns-clause-check g c = check_holds _ _ _ _ c.answered.ensures
 
 pub returns-clause-recording : goal.returns-clause-recording
 returns-clause-recording g c = recording_holds _ _ _ _ c.answered.ensures
