@@ -93,7 +93,7 @@ checked_so c s program text r p told told' = record {
   text = r.loads.text;
   loaded = r.loads.loaded told;
   of_program = r.of_program;
-  links = r.loads.links;
+  accepted = r.loads.accepted;
   untouched = r.untouched told;
   puts = p told' ∙ ap (λ (printed : List ℕ). s.before ++ printed) r.prints;
 }

@@ -10,8 +10,11 @@ use Rattle.thread_driver.specs.Recordings.{Diverges}
 use Rattle.dejavu_tool.proofs.Repeating.{same_some, same_ok, spelled_is_read}
 use Rattle.dejavu_tool.specs.declared.status.Status.{Status}
 use Rattle.dejavu_tool.specs.declared.status.Status.TheVariants as status
-use Rattle.dejavu_tool.specs.Accepting.{accepting, linked}
-use Rattle.dejavu_tool.specs.Answers.{Answers, LinkStops, LoadsProgram, LoadsLog, LogStops, ProgramStops, StopsAtLog, StopsAtRun, TellsDivergence}
+use Rattle.machine_model.specs.Shapes.{IsVerified}
+use Rattle.dejavu_tool.specs.declared.programs.ProgramFault.{ProgramFault}
+use Rattle.dejavu_tool.specs.declared.programs.ProgramFault.TheVariants as fault
+use Rattle.dejavu_tool.specs.Accepting.{linked, IsAccepted}
+use Rattle.dejavu_tool.specs.Answers.{Answers, LoadsProgram, LoadsLog, LogStops, ProgramStops, StopsAtLog, StopsAtRun, TellsDivergence, TellsFault}
 use Rattle.dejavu_tool.specs.Calls.{FolderCall, SinkCall}
 use Rattle.dejavu_tool.specs.Commands.{Request, Check, Record, Replay, Unknown}
 use Rattle.dejavu_tool.specs.Completeness.{CanCheck, CanRecord, CanReplay, IsComplete}
@@ -55,19 +58,41 @@ no_some o x a b = cc
 same_program : (c : FolderCall) (s : SinkCall) (program : List ℕ) (p : PlainProgram) → (can : CanRecord c s program) → LoadsProgram c program p → p ≡ can.of_program
 same_program c s program p can l =
     let same = same_some (c.before program) l.text can.text (l.loaded can.told) can.there in
-    same_ok (accepting can.text) p can.of_program (subst (λ (t : List ℕ). accepting t ≡ Ok p) same l.accepted) can.accepted
+    same_ok (linked can.text) p can.of_program (subst (λ (t : List ℕ). linked t ≡ Ok p) same l.accepted.links) can.accepted.links
 
 same_log : (c : FolderCall) (s : SinkCall) (program log : List ℕ) (l : PlainLog) → (can : CanReplay c s program log) → LoadsLog c log l → l ≡ can.of_log
 same_log c s program log l can loads =
     let same = same_some (c.before log) loads.bytes can.bytes (loads.loaded can.can.told) can.kept in
     same_ok (read_log can.bytes) l can.of_log (subst (λ (b : List ℕ). read_log b ≡ Ok l) same (spelled_is_read l loads.bytes loads.spelled)) (spelled_is_read can.of_log can.bytes can.spelled)
 
-program_stops : (c : FolderCall) (s : SinkCall) (program : List ℕ) (answer : Status) (text : List ℕ) → CanRecord c s program → ProgramStops c program answer text → ⊥
+-- what can be recorded can be checked
+as_check : (c : FolderCall) (s : SinkCall) (program : List ℕ) → CanRecord c s program → CanCheck c s program
+as_check c s program can = record {
+  told = can.told;
+  text = can.text;
+  there = can.there;
+  of_program = can.of_program;
+  accepted = can.accepted;
+  no_load = can.no_load;
+  no_put = can.no_put;
+}
+
+-- a text that is accepted has no fault
+no_fault : (text : List ℕ) (p : PlainProgram) (f : ProgramFault) (printed : List ℕ) → IsAccepted text p → TellsFault text f printed → ⊥
+no_fault text p (fault.Text kind line column) printed is h = never (linked text) p (fault.Text kind line column) is.links h.0
+no_fault text p (fault.Read kind line) printed is h = never (linked text) p (fault.Read kind line) is.links h.0
+no_fault text p (fault.Link kind line) printed is h = never (linked text) p (fault.Link kind line) is.links h.0
+no_fault text p (fault.Shape _ method at) printed is h =
+    let same = same_ok (linked text) p h.unverified.program is.links h.unverified.links in
+    let verified = subst IsVerified same is.verified in h.unverified.refused.none (verified.0, verified.1 method)
+no_fault text p fault.NoMemory printed is h = h
+
+program_stops : (c : FolderCall) (s : SinkCall) (program : List ℕ) (answer : Status) (text : List ℕ) → CanCheck c s program → ProgramStops c program answer text → ⊥
 program_stops c s program status.Absent text can h = no_some (c.before program) can.text can.there (h.0 can.told)
 program_stops c s program status.ReadFault text can h = can.no_load h.0
 program_stops c s program status.ProgramRefused text can h =
     let same = same_some (c.before program) h.text can.text (h.loaded can.told) can.there in
-    never (accepting can.text) can.of_program h.refuses.fault can.accepted (subst (λ (t : List ℕ). accepting t ≡ Err h.refuses.fault) same h.refuses.refused)
+    no_fault can.text can.of_program h.refuses.fault text can.accepted (subst (λ (t : List ℕ). TellsFault t h.refuses.fault text) same h.refuses.tells)
 program_stops c s program status.Ok text can h = h
 program_stops c s program status.Usage text can h = h
 program_stops c s program status.LogRefused text can h = h
@@ -114,16 +139,16 @@ record_done c s program log status.Ok can a = inl refl
 record_done c s program log status.OutOfMemory can a = inr refl
 record_done c s program log status.WriteFault can a = absurd (⊎_elim (λ l. can.no_store l.0.fault) (λ l. can.no_put l.lost.fault) a)
 record_done c s program log status.Usage can a = absurd a.tells.1
-record_done c s program log status.Absent can a = absurd (program_stops c s program status.Absent a.text can a.tells.1)
-record_done c s program log status.ReadFault can a = absurd (program_stops c s program status.ReadFault a.text can a.tells.1)
-record_done c s program log status.ProgramRefused can a = absurd (program_stops c s program status.ProgramRefused a.text can a.tells.1)
+record_done c s program log status.Absent can a = absurd (program_stops c s program status.Absent a.text (as_check c s program can) a.tells.1)
+record_done c s program log status.ReadFault can a = absurd (program_stops c s program status.ReadFault a.text (as_check c s program can) a.tells.1)
+record_done c s program log status.ProgramRefused can a = absurd (program_stops c s program status.ProgramRefused a.text (as_check c s program can) a.tells.1)
 record_done c s program log status.LogRefused can a = absurd a.tells.1
 record_done c s program log status.Diverged can a = absurd a.tells.1
 
 replay_stops : (c : FolderCall) (s : SinkCall) (program log : List ℕ) (answer : Status) (text : List ℕ) → CanReplay c s program log
     → (ProgramStops c program answer text) ⊎ (StopsAtLog c program log answer text ⊎ StopsAtRun c program log answer text) → ⊥
 replay_stops c s program log answer text can h =
-    ⊎_elim (λ a. program_stops c s program answer text can.can a) (λ b. ⊎_elim (λ a. log_stops c s program log answer text can a.stops) (λ a. run_stops c s program log answer text can a) b) h
+    ⊎_elim (λ a. program_stops c s program answer text (as_check c s program can.can) a) (λ b. ⊎_elim (λ a. log_stops c s program log answer text can a.stops) (λ a. run_stops c s program log answer text can a) b) h
 
 replay_done : (c : FolderCall) (s : SinkCall) (program log : List ℕ) (answer : Status) → CanReplay c s program log → Answers (Replay program log) c s answer → IsDone answer
 replay_done c s program log status.Ok can a = inl refl
@@ -136,27 +161,14 @@ replay_done c s program log status.ProgramRefused can a = absurd (replay_stops c
 replay_done c s program log status.LogRefused can a = absurd (replay_stops c s program log status.LogRefused a.text can a.tells.1)
 replay_done c s program log status.Diverged can a = absurd (replay_stops c s program log status.Diverged a.text can a.tells.1)
 
-link_stops : (c : FolderCall) (s : SinkCall) (program : List ℕ) (answer : Status) (text : List ℕ) → CanCheck c s program → LinkStops c program answer text → ⊥
-link_stops c s program status.Absent text can h = no_some (c.before program) can.text can.there (h.0 can.told)
-link_stops c s program status.ReadFault text can h = can.no_load h.0
-link_stops c s program status.ProgramRefused text can h =
-    let same = same_some (c.before program) h.text can.text (h.loaded can.told) can.there in
-    never (linked can.text) can.of_program h.refuses.fault can.links (subst (λ (t : List ℕ). linked t ≡ Err h.refuses.fault) same h.refuses.refused)
-link_stops c s program status.Ok text can h = h
-link_stops c s program status.Usage text can h = h
-link_stops c s program status.LogRefused text can h = h
-link_stops c s program status.Diverged text can h = h
-link_stops c s program status.WriteFault text can h = h
-link_stops c s program status.OutOfMemory text can h = h
-
 check_done : (c : FolderCall) (s : SinkCall) (program : List ℕ) (answer : Status) → CanCheck c s program → Answers (Check program) c s answer → IsDone answer
 check_done c s program status.Ok can a = inl refl
 check_done c s program status.OutOfMemory can a = inr refl
 check_done c s program status.WriteFault can a = absurd (⊎_elim (λ l. l.0) (λ l. can.no_put l.lost.fault) a)
 check_done c s program status.Usage can a = absurd a.tells.1
-check_done c s program status.Absent can a = absurd (link_stops c s program status.Absent a.text can a.tells.1)
-check_done c s program status.ReadFault can a = absurd (link_stops c s program status.ReadFault a.text can a.tells.1)
-check_done c s program status.ProgramRefused can a = absurd (link_stops c s program status.ProgramRefused a.text can a.tells.1)
+check_done c s program status.Absent can a = absurd (program_stops c s program status.Absent a.text can a.tells.1)
+check_done c s program status.ReadFault can a = absurd (program_stops c s program status.ReadFault a.text can a.tells.1)
+check_done c s program status.ProgramRefused can a = absurd (program_stops c s program status.ProgramRefused a.text can a.tells.1)
 check_done c s program status.LogRefused can a = absurd a.tells.1
 check_done c s program status.Diverged can a = absurd a.tells.1
 

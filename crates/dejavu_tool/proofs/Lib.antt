@@ -3,3 +3,5 @@ pub mod Answering
 pub mod Beginning
 pub mod Completing
 pub mod Repeating
+pub mod Linked
+pub mod Telling

@@ -8,7 +8,7 @@ use Rattle.schedule_log.specs.Reading.{read_log}
 use Rattle.schedule_log.specs.Spelling.{Spells}
 use Rattle.schedule_log.proofs.Spelled.{read_again}
 use Rattle.report_writer.specs.Texts.{run_text}
-use Rattle.dejavu_tool.specs.Accepting.{accepting}
+use Rattle.dejavu_tool.specs.Accepting.{linked}
 use Rattle.dejavu_tool.specs.Headline.{IsRunOfFiles}
 
 pub same_some : {A : Type 0} (o : Option A) (x y : A) → o ≡ Some x → o ≡ Some y → x ≡ y
@@ -42,7 +42,7 @@ pub same_files : (before logs other_before other_logs : List ℕ → Option (Lis
     → IsRunOfFiles before logs program log printed → IsRunOfFiles other_before other_logs other_program other_log also → before program ≡ other_before other_program → logs log ≡ other_logs other_log → printed ≡ also
 same_files before logs other_before other_logs program log other_program other_log printed also r o texts bytes =
     let same_text = same_some (other_before other_program) r.text o.text (sym texts ∙ r.loaded) o.loaded in
-    let same_p = same_ok (accepting o.text) r.of_program o.of_program (subst (λ (x : List ℕ). accepting x ≡ Ok r.of_program) same_text r.accepted) o.accepted in
+    let same_p = same_ok (linked o.text) r.of_program o.of_program (subst (λ (x : List ℕ). linked x ≡ Ok r.of_program) same_text r.accepted.links) o.accepted.links in
     let same_bytes = same_some (other_logs other_log) r.bytes o.bytes (sym bytes ∙ r.kept) o.kept in
     let read = subst (λ (x : List ℕ). read_log x ≡ Ok r.of_log) same_bytes (spelled_is_read r.of_log r.bytes r.spelled) in
     let same_l = same_ok (read_log o.bytes) r.of_log o.of_log read (spelled_is_read o.of_log o.bytes o.spelled) in

@@ -9,7 +9,9 @@ use Rattle.jasmin_reader.specs.Plain.{PlainClassText}
 use Rattle.jasmin_reader.specs.Reading.{reading}
 use Rattle.class_linker.specs.declared.fault.Refusal as link
 use Rattle.class_linker.specs.Linking.{linking}
-use Rattle.first_stage.specs.Reading as stage
+use Rattle.machine_model.specs.Shapes.{IsVerified}
+use Rattle.shape_verifier.specs.declared.fault.Refusal as shape
+use Rattle.shape_verifier.specs.Passing.{IsRefused}
 use Rattle.dejavu_tool.specs.declared.programs.ProgramFault.{ProgramFault}
 use Rattle.dejavu_tool.specs.declared.programs.ProgramFault.TheVariants as fault
 
@@ -31,37 +33,38 @@ by_tokens text (Err s) = Err (fault.Text s.kind s.line s.column)
 unfoldable pub linked : List ℕ → Result PlainProgram ProgramFault
 linked text = if nat_lt 1048576 (length text) then Err (fault.Read TooMany 0) else by_tokens text (tokens_of text)
 
--- ---- the first stage, judged last
+-- ---- the program of a text
 
-abbrev pub as_yet : Result PlainProgram ℕ → Result PlainProgram ProgramFault
-as_yet (Ok p) = Ok p
-as_yet (Err line) = Err (fault.NotYet line)
+-- The text's program: what it links to, where each method has a closed table of shapes.
+pub record IsAccepted (text : List ℕ) (p : PlainProgram) : Type 0 where
+  pub links : linked text ≡ Ok p
+  pub verified : IsVerified p
 
-abbrev pub runnable : List ℕ → Result PlainProgram ProgramFault → Result PlainProgram ProgramFault
-runnable text (Ok p) = as_yet (stage.reading text)
-runnable text (Err f) = Err f
-
--- the program of a text, or why it isn't accepted
-unfoldable pub accepting : List ℕ → Result PlainProgram ProgramFault
-accepting text = runnable text (linked text)
-
-abbrev pub IsAccepted : List ℕ → PlainProgram → Type 0
-IsAccepted text p = accepting text ≡ Ok p
+-- the text is linked, and its program has a least method without a closed table, over which the pass stops here
+pub record IsUnverified (text : List ℕ) (method : ℕ) (why : shape.Refusal) : Type 0 where
+  pub program : PlainProgram
+  pub links : linked text ≡ Ok program
+  pub refused : IsRefused program method why
 
 -- ---- answers
 
--- why there is no program
+-- why there is no linked program
 abbrev pub Fails : Result PlainProgram ProgramFault → ProgramFault → Type 0
 Fails answer (fault.Text kind line column) = answer ≡ Err (fault.Text kind line column)
 Fails answer (fault.Read kind line) = answer ≡ Err (fault.Read kind line)
 Fails answer (fault.Link kind line) = answer ≡ Err (fault.Link kind line)
-Fails answer (fault.NotYet line) = answer ≡ Err (fault.NotYet line)
+Fails answer (fault.Shape _ method at) = ⊥
 Fails answer fault.NoMemory = Unit {0}
 
-abbrev pub Refuses : List ℕ → ProgramFault → Type 0
-Refuses text f = Fails (accepting text) f
-
--- a program, or why there is none
+-- a linked program, or why there is none
 abbrev pub Gives : Result PlainProgram ProgramFault → Result PlainProgram ProgramFault → Type 0
 Gives (Ok p) answer = answer ≡ Ok p
 Gives (Err f) answer = Fails answer f
+
+-- why a text isn't accepted: its first fault
+abbrev pub Refuses : List ℕ → ProgramFault → Type 0
+Refuses text (fault.Text kind line column) = linked text ≡ Err (fault.Text kind line column)
+Refuses text (fault.Read kind line) = linked text ≡ Err (fault.Read kind line)
+Refuses text (fault.Link kind line) = linked text ≡ Err (fault.Link kind line)
+Refuses text (fault.Shape kind method at) = IsUnverified text method (record { kind = kind; at = at })
+Refuses text fault.NoMemory = Unit {0}

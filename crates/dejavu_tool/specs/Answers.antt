@@ -1,5 +1,5 @@
 -- What each status of a command says.
-use Rattle.std.specs.Prelude.{◌≡◌, ℕ, List, [], length, IsTrue, Ok, Err, Option, Some, ◌⊎◌}
+use Rattle.std.specs.Prelude.{◌≡◌, ℕ, List, [], length, IsTrue, Err, Option, Some, ◌⊎◌}
 use Rattle.tool_io.specs.Outside.{SameButOne, SetsFile}
 use Rattle.vm_model.specs.declared.ends.End.{End}
 use Rattle.vm_model.specs.Ends.{kind_of_end}
@@ -14,14 +14,20 @@ use Rattle.schedule_log.specs.Reading.{read_log}
 use Rattle.schedule_log.specs.Spelling.{Spells}
 use Rattle.thread_driver.specs.Recordings.{Diverges}
 use Rattle.report_writer.specs.Texts.{run_text}
+use Rattle.jasmin_text.specs.Texts as texts
+use Rattle.jasmin_reader.specs.Faults as read
+use Rattle.class_linker.specs.Faults as link
+use Rattle.shape_verifier.specs.declared.fault.ShapeKind.{ShapeKind}
+use Rattle.shape_verifier.specs.Judging as shape
 use Rattle.dejavu_tool.specs.declared.status.Status.{Status}
 use Rattle.dejavu_tool.specs.declared.status.Status.TheVariants as status
 use Rattle.dejavu_tool.specs.declared.programs.ProgramFault.{ProgramFault}
-use Rattle.dejavu_tool.specs.Accepting.{accepting, linked, IsAccepted}
+use Rattle.dejavu_tool.specs.declared.programs.ProgramFault.TheVariants as fault
+use Rattle.dejavu_tool.specs.Accepting.{linked, IsAccepted, IsUnverified}
 use Rattle.dejavu_tool.specs.Checking.{check_text}
 use Rattle.dejavu_tool.specs.Calls.{FolderCall, SinkCall, Loads, Misses, LoadFails, StoreFails, IsUntouched, Puts, PutsNothing, PutFails}
 use Rattle.dejavu_tool.specs.Commands.{Request, Check, Record, Replay, Unknown}
-use Rattle.dejavu_tool.specs.Lines.{usage_line, absent_line, read_fault_line, refused_line, log_refused_line, diverged_line}
+use Rattle.dejavu_tool.specs.Lines.{usage_line, absent_line, read_fault_line, text_line, read_line, link_line, shape_line, log_refused_line, diverged_line}
 
 -- ---- runs
 
@@ -56,17 +62,23 @@ pub record LoadsLog (c : FolderCall) (name : List ℕ) (log : PlainLog) : Type 0
   pub loaded : Loads c name bytes
   pub spelled : Spells log bytes
 
+-- the line of a text that is linked and not verified, with the method's name in its program
+pub record TellsShape (text : List ℕ) (kind : ShapeKind) (method at : ℕ) (printed : List ℕ) : Type 0 where
+  pub unverified : IsUnverified text method (record { kind = kind; at = at })
+  pub prints : printed ≡ shape_line unverified.program (shape.kind_number kind) method at
+
+-- the line of a text's fault
+abbrev pub TellsFault : List ℕ → ProgramFault → List ℕ → Type 0
+TellsFault text (fault.Text kind line column) printed = (linked text ≡ Err (fault.Text kind line column)) × (printed ≡ text_line (texts.kind_number kind) line column)
+TellsFault text (fault.Read kind line) printed = (linked text ≡ Err (fault.Read kind line)) × (printed ≡ read_line (read.kind_number kind) line)
+TellsFault text (fault.Link kind line) printed = (linked text ≡ Err (fault.Link kind line)) × (printed ≡ link_line (link.kind_number kind) line)
+TellsFault text (fault.Shape kind method at) printed = TellsShape text kind method at printed
+TellsFault text fault.NoMemory printed = ⊥
+
 -- why a text isn't accepted
 pub record RefusesText (text printed : List ℕ) : Type 0 where
   pub fault : ProgramFault
-  pub refused : accepting text ≡ Err fault
-  pub prints : printed ≡ refused_line fault
-
--- why a text isn't linked
-pub record RefusesLink (text printed : List ℕ) : Type 0 where
-  pub fault : ProgramFault
-  pub refused : linked text ≡ Err fault
-  pub prints : printed ≡ refused_line fault
+  pub tells : TellsFault text fault printed
 
 -- the first fault of bytes that spell no log
 pub record RefusesBytes (bytes printed : List ℕ) : Type 0 where
@@ -103,29 +115,10 @@ ProgramStops c name status.ReadFault printed = LoadFails c × (printed ≡ read_
 ProgramStops c name status.ProgramRefused printed = RefusesProgram c name printed
 ProgramStops c name _ printed = ⊥
 
--- the file of this name has a text that isn't linked
-pub record StopsAtLink (c : FolderCall) (name printed : List ℕ) : Type 0 where
-  pub text : List ℕ
-  pub loaded : Loads c name text
-  pub refuses : RefusesLink text printed
-
--- the file leads to no linked program
-abbrev pub LinkStops : FolderCall → List ℕ → Status → List ℕ → Type 0
-LinkStops c name status.Absent printed = Misses c name × (printed ≡ absent_line name)
-LinkStops c name status.ReadFault printed = LoadFails c × (printed ≡ read_fault_line name)
-LinkStops c name status.ProgramRefused printed = StopsAtLink c name printed
-LinkStops c name _ printed = ⊥
-
--- the file of this name has the text of a linked program
-pub record LoadsLinked (c : FolderCall) (name : List ℕ) (p : PlainProgram) : Type 0 where
-  pub text : List ℕ
-  pub loaded : Loads c name text
-  pub links : linked text ≡ Ok p
-
 -- a check: no file changes, and the counts of the program are printed
 pub record Checks (c : FolderCall) (program printed : List ℕ) : Type 0 where
   pub of_program : PlainProgram
-  pub loads : LoadsLinked c program of_program
+  pub loads : LoadsProgram c program of_program
   pub prints : printed ≡ check_text of_program
   pub untouched : IsUntouched c
 
@@ -175,7 +168,7 @@ pub record StopsAtRun (c : FolderCall) (program log : List ℕ) (status : Status
 -- why `check` ended with this status, and what it prints
 abbrev pub CheckTells : FolderCall → List ℕ → Status → List ℕ → Type 0
 CheckTells c program status.Ok printed = Checks c program printed
-CheckTells c program status printed = IsUntouched c × LinkStops c program status printed
+CheckTells c program status printed = IsUntouched c × ProgramStops c program status printed
 
 -- why `record` or `replay` ended with this status, and what it prints
 abbrev pub RecordTells : FolderCall → List ℕ → List ℕ → Status → List ℕ → Type 0

@@ -1,5 +1,5 @@
 -- When a command does what it was asked for.
-use Rattle.std.specs.Prelude.{◌≡◌, ℕ, List, IsTrue, Ok, Some, option_map, ◌⊎◌}
+use Rattle.std.specs.Prelude.{◌≡◌, ℕ, List, IsTrue, Some, option_map, ◌⊎◌}
 use Rattle.vm_model.specs.Ends.{kind_of_end}
 use Rattle.vm_model.specs.Program.{PlainProgram}
 use Rattle.machine_model.specs.Machine.{MachineState, end_of, run}
@@ -7,18 +7,18 @@ use Rattle.schedule_log.specs.Logs.{PlainLog, expansion}
 use Rattle.schedule_log.specs.Spelling.{Spells}
 use Rattle.dejavu_tool.specs.declared.status.Status.{Status}
 use Rattle.dejavu_tool.specs.declared.status.Status.TheVariants as status
-use Rattle.dejavu_tool.specs.Accepting.{IsAccepted, linked}
+use Rattle.dejavu_tool.specs.Accepting.{IsAccepted}
 use Rattle.dejavu_tool.specs.Calls.{FolderCall, SinkCall, LoadFails, StoreFails}
 use Rattle.dejavu_tool.specs.Commands.{Request, Check, Record, Replay, Unknown}
 use Rattle.tool_io.specs.Outside.{HasRisen}
 
--- the folder tells its files, the text of a linked program is under P, and no count of faults rises
+-- the folder tells its files, an accepted program is under P, and no load and no put fails
 pub record CanCheck (c : FolderCall) (s : SinkCall) (program : List ℕ) : Type 0 where
   pub told : IsTrue c.told
   pub text : List ℕ
   pub there : c.before program ≡ Some text
   pub of_program : PlainProgram
-  pub links : linked text ≡ Ok of_program
+  pub accepted : IsAccepted text of_program
   pub no_load : LoadFails c → ⊥
   pub no_put : HasRisen s.faults_before s.faults_after → ⊥
 

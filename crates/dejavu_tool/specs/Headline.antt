@@ -1,5 +1,5 @@
 -- What a finished check, a finished recording and a finished replay say, of a folder and a sink that tell what they hold.
-use Rattle.std.specs.Prelude.{◌≡◌, ℕ, List, [], ◌++◌, length, IsTrue, Ok, Option, Some}
+use Rattle.std.specs.Prelude.{◌≡◌, ℕ, List, [], ◌++◌, length, IsTrue, Option, Some}
 use Rattle.tool_io.specs.Outside.{SameFiles, SetsFile}
 use Rattle.vm_model.specs.declared.ends.End.{End}
 use Rattle.vm_model.specs.Ends.{kind_of_end}
@@ -12,7 +12,7 @@ use Rattle.schedule_log.specs.Spelling.{Spells}
 use Rattle.report_writer.specs.Texts.{run_text}
 use Rattle.dejavu_tool.specs.declared.status.Status.{Status}
 use Rattle.dejavu_tool.specs.declared.status.Status.TheVariants as status
-use Rattle.dejavu_tool.specs.Accepting.{IsAccepted, linked}
+use Rattle.dejavu_tool.specs.Accepting.{IsAccepted}
 use Rattle.dejavu_tool.specs.Checking.{check_text}
 use Rattle.dejavu_tool.specs.Calls.{FolderCall, SinkCall}
 use Rattle.dejavu_tool.specs.Commands.{Request, Check, Record, Replay}
@@ -54,12 +54,12 @@ pub record IsFinishedReplay (c : FolderCall) (s : SinkCall) (program log : List 
   pub untouched : SameFiles c.before c.after
   pub puts : s.after ≡ s.before ++ printed
 
--- The text under P is that of a linked program, whose counts are printed. No file changed.
+-- The text under P is that of an accepted program, whose counts are printed. No file changed.
 pub record IsFinishedCheck (c : FolderCall) (s : SinkCall) (program : List ℕ) : Type 0 where
   pub text : List ℕ
   pub loaded : c.before program ≡ Some text
   pub of_program : PlainProgram
-  pub links : linked text ≡ Ok of_program
+  pub accepted : IsAccepted text of_program
   pub untouched : SameFiles c.before c.after
   pub puts : s.after ≡ s.before ++ check_text of_program
 

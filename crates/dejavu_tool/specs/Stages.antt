@@ -1,17 +1,15 @@
 -- What the stages of a command leave.
-use Rattle.std.specs.Prelude.{◌≡◌, ◌≢◌, ℕ, ◌≤◌, List, ◌⊎◌, IsTrue}
+use Rattle.std.specs.Prelude.{◌≡◌, ℕ, ◌≤◌, List, ◌⊎◌, IsTrue}
 use Rattle.vm_model.specs.Program.{PlainProgram}
 use Rattle.schedule_log.specs.Logs.{PlainLog}
 use Rattle.dejavu_tool.specs.declared.halt.Halt.{Halt}
 use Rattle.dejavu_tool.specs.declared.halt.Halt.TheVariants as halt
-use Rattle.dejavu_tool.specs.declared.programs.ProgramFault.{ProgramFault}
-use Rattle.dejavu_tool.specs.declared.programs.ProgramFault.TheVariants as fault
 use Rattle.dejavu_tool.specs.declared.status.Status.{Status}
 use Rattle.dejavu_tool.specs.declared.status.Status.TheVariants as status
 use Rattle.dejavu_tool.specs.Calls.{FolderCall, SinkCall, IsUntouched, StoreFails, Puts, PutFails}
-use Rattle.dejavu_tool.specs.Answers.{LinkStops, LogStops, ProgramStops, RefusesBytes, RefusesLink, RefusesText, RunStops, StoreIsLost, Tells}
+use Rattle.dejavu_tool.specs.Answers.{LogStops, ProgramStops, RefusesBytes, RefusesText, RunStops, StoreIsLost, Tells}
 use Rattle.dejavu_tool.specs.Commands.{Request}
-use Rattle.dejavu_tool.specs.Lines.{usage_line, refused_line}
+use Rattle.dejavu_tool.specs.Lines.{usage_line}
 use Rattle.tool_io.specs.Outside.{SameButOne, SetsFile}
 
 -- the folder was read at most
@@ -20,32 +18,12 @@ pub record OnlyReads (c : FolderCall) : Type 0 where
   pub loads : c.loads_before ≤ c.loads_after
   pub stores : c.stores_after ≡ c.stores_before
 
--- what is told of a text with a fault
-abbrev pub IsRefusal : ProgramFault → Halt → Type 0
-IsRefusal f (halt.Told status.ProgramRefused line) = (line.items ≡ refused_line f) × (f ≢ fault.NoMemory)
-IsRefusal f (halt.Told _ line) = ⊥
-IsRefusal f halt.Memory = f ≡ fault.NoMemory
-IsRefusal f halt.Store = ⊥
-
 -- a text isn't accepted
 abbrev pub TextHalts : List ℕ → Halt → Type 0
 TextHalts text (halt.Told status.ProgramRefused line) = RefusesText text line.items
 TextHalts text (halt.Told _ line) = ⊥
 TextHalts text halt.Memory = Unit {0}
 TextHalts text halt.Store = ⊥
-
--- a text isn't linked
-abbrev pub LinkHalts : List ℕ → Halt → Type 0
-LinkHalts text (halt.Told status.ProgramRefused line) = RefusesLink text line.items
-LinkHalts text (halt.Told _ line) = ⊥
-LinkHalts text halt.Memory = Unit {0}
-LinkHalts text halt.Store = ⊥
-
--- the file leads to no linked program
-abbrev pub LinkedHalts : FolderCall → List ℕ → Halt → Type 0
-LinkedHalts c name (halt.Told status line) = LinkStops c name status line.items
-LinkedHalts c name halt.Memory = Unit {0}
-LinkedHalts c name halt.Store = ⊥
 
 -- bytes spell no log
 abbrev pub BytesHalt : List ℕ → Halt → Type 0

@@ -8,7 +8,7 @@ ghost use Rattle.dejavu_tool.specs.Commands.{Check};
 ghost use Rattle.dejavu_tool.specs.Stages.{Halts};
 
 use crate::halt::Halt;
-use crate::loading::load_linked;
+use crate::loading::load_program;
 use itoa::Buffer;
 use std::alloc::Global;
 use tool_io::Folder;
@@ -66,6 +66,6 @@ pub fn check_file<F: Folder>(alloc: Global, program: &str, folder: &mut F) -> Re
     ensures checks { IfOk result (λ text. Checks (folder_call F.is_told F.file F.load_faults F.store_faults folder.old folder.new) program.now text.items) }
     ensures halts { IfErr result (Halts (Check program.now) (folder_call F.is_told F.file F.load_faults F.store_faults folder.old folder.new)) }
 {
-    let found = load_linked(alloc, program, folder)?;
-    Ok(check_text(alloc, &found)?)
+    let shaped = load_program(alloc, program, folder)?;
+    Ok(check_text(alloc, shaped.program())?)
 }

@@ -18,4 +18,6 @@ pub use status::Status;
 pub use top::dejavu;
 
 #[cfg(test)]
+mod shapes_tested;
+#[cfg(test)]
 mod tests;

@@ -1,10 +1,10 @@
 ghost use Rattle.std.specs.Prelude.{◌≡◌, ◌++◌, ◌∷◌, [], List, ℕ, IfOk, OnOk, decimal};
 ghost use Rattle.dejavu_tool.specs.Lines as spec;
 
-use crate::programs::ProgramFault;
 use itoa::Buffer;
+use report_writer::put_method;
 use std::alloc::Global;
-use vm_model::NoMemory;
+use vm_model::{NoMemory, Program};
 
 /// Adds a number in decimal.
 fn put_number(out: &mut Vec<u8>, n: u64) -> Result<(), NoMemory>
@@ -43,15 +43,6 @@ pub fn read_fault(alloc: Global, name: &str) -> Result<Vec<u8>, NoMemory>
     named(alloc, b"read fault ", name)
 }
 
-fn not_yet(alloc: Global, number: u32) -> Result<Vec<u8>, NoMemory>
-    ensures { IfOk result (λ line. line.items ≡ spec.not_yet_line number) }
-{
-    let mut out = Vec::from_slice(alloc, b"program refused: not yet line ")?;
-    put_number(&mut out, number as u64)?;
-    out.push(10)?;
-    Ok(out)
-}
-
 /// The number of a fault, and its line.
 fn put_fault(out: &mut Vec<u8>, word: &[u8], kind: u8, line: u32) -> Result<(), NoMemory>
     ensures { OnOk result (out.new.items ≡ out.old.items ++ spec.fault_at word.now kind line) }
@@ -72,7 +63,8 @@ fn fault_line(alloc: Global, word: &[u8], kind: u8, line: u32) -> Result<Vec<u8>
     Ok(out)
 }
 
-fn text_line(alloc: Global, kind: u8, line: u32, column: u32) -> Result<Vec<u8>, NoMemory>
+/// The line of a fault of a text's bytes.
+pub fn text(alloc: Global, kind: u8, line: u32, column: u32) -> Result<Vec<u8>, NoMemory>
     ensures { IfOk result (λ text. text.items ≡ spec.text_line kind line column) }
 {
     let mut out = Vec::new(alloc);
@@ -83,22 +75,38 @@ fn text_line(alloc: Global, kind: u8, line: u32, column: u32) -> Result<Vec<u8>,
     Ok(out)
 }
 
-/// Why a text is no program.
-#[tactic(auto, unfolding(crate::specs::Lines::refused_line))]
-pub fn refused(alloc: Global, fault: ProgramFault) -> Result<Vec<u8>, NoMemory>
-    ensures { IfOk result (λ line. line.items ≡ spec.refused_line fault) }
+/// The line of a fault of a text's grammar.
+pub fn read(alloc: Global, kind: u8, line: u32) -> Result<Vec<u8>, NoMemory>
+    ensures { IfOk result (λ text. text.items ≡ spec.read_line kind line) }
 {
-    match fault {
-        ProgramFault::Text { kind, line, column } => text_line(alloc, kind.number(), line, column),
-        ProgramFault::Read { kind, line } => {
-            fault_line(alloc, b"program refused: read ", kind.number(), line)
-        }
-        ProgramFault::Link { kind, line } => {
-            fault_line(alloc, b"program refused: link ", kind.number(), line)
-        }
-        ProgramFault::NotYet { line } => not_yet(alloc, line),
-        ProgramFault::NoMemory => Ok(Vec::new(alloc)),
-    }
+    fault_line(alloc, b"program refused: read ", kind, line)
+}
+
+/// The line of a fault of a text's names.
+pub fn link(alloc: Global, kind: u8, line: u32) -> Result<Vec<u8>, NoMemory>
+    ensures { IfOk result (λ text. text.items ≡ spec.link_line kind line) }
+{
+    fault_line(alloc, b"program refused: link ", kind, line)
+}
+
+/// The line of a fault of a program's shapes.
+pub fn shape(
+    alloc: Global,
+    program: &Program,
+    kind: u8,
+    method: u32,
+    at: u32,
+) -> Result<Vec<u8>, NoMemory>
+    ensures { IfOk result (λ text. text.items ≡ spec.shape_line program.now kind method at) }
+{
+    let mut out = Vec::from_slice(alloc, b"program refused: shape ")?;
+    put_number(&mut out, kind as u64)?;
+    out.extend_from_slice(b" in ")?;
+    put_method(&mut out, program, method)?;
+    out.extend_from_slice(b" at ")?;
+    put_number(&mut out, at as u64)?;
+    out.push(10)?;
+    Ok(out)
 }
 
 pub fn log_refused(alloc: Global, kind: u8, offset: u64) -> Result<Vec<u8>, NoMemory>

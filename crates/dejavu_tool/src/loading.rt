@@ -1,21 +1,23 @@
 //! The files of a command.
 
-ghost use Rattle.std.specs.Prelude.{◌≡◌, None, IfOk, IfErr, Ok as OkOf};
+ghost use Rattle.std.specs.Prelude.{◌≡◌, None, IfOk, IfErr};
 ghost use Rattle.machine_model.specs.Machine.{end_of, start_machine};
 ghost use Rattle.schedule_log.specs.Spelling.{Spells};
-ghost use Rattle.dejavu_tool.specs.Accepting.{IsAccepted, linked};
-ghost use Rattle.dejavu_tool.specs.Answers.{LoadsLinked, LoadsLog, LoadsProgram};
+ghost use Rattle.dejavu_tool.specs.declared.programs.ProgramFault.TheVariants.{Shape};
+ghost use Rattle.dejavu_tool.specs.Accepting.{IsAccepted, Refuses};
+ghost use Rattle.dejavu_tool.specs.Answers.{LoadsLog, LoadsProgram, TellsFault, TellsShape};
 ghost use Rattle.dejavu_tool.specs.Calls.{folder_call, Loads};
-ghost use Rattle.dejavu_tool.specs.Stages.{BytesHalt, FileHalts, IsRefusal, LinkHalts, LinkedHalts, LogHalts, OnlyReads, ProgramHalts, TextHalts};
+ghost use Rattle.dejavu_tool.specs.Stages.{BytesHalt, FileHalts, LogHalts, OnlyReads, ProgramHalts, TextHalts};
 
 use crate::halt::Halt;
 use crate::lines;
 use crate::programs::{ProgramFault, accept, linked_program};
 use crate::status::Status;
 use schedule_log::{Log, LogFault, decode};
+use shape_verifier::{ShapeKind, Shaped};
 use std::alloc::Global;
 use tool_io::{Folder, Load};
-use vm_model::{NoMemory, Plain, Program};
+use vm_model::NoMemory;
 
 /// The bytes of a file.
 fn load_file<F: Folder>(alloc: Global, name: &str, folder: &mut F) -> Result<Vec<u8>, Halt>
@@ -32,36 +34,48 @@ fn load_file<F: Folder>(alloc: Global, name: &str, folder: &mut F) -> Result<Vec
     }
 }
 
-/// What a command is told of a text that is no program.
-fn refusal(alloc: Global, fault: ProgramFault) -> Result<Halt, NoMemory>
-    ensures { IfOk result (IsRefusal fault) }
+/// The line of a text that is linked and not verified: it is linked once more, for the method's name.
+fn shape_line(
+    alloc: Global,
+    text: &[u8],
+    kind: ShapeKind,
+    method: u32,
+    at: u32,
+) -> Result<Vec<u8>, NoMemory>
+    requires { Refuses text.now (Shape kind method at) }
+    ensures { IfOk result (λ line. TellsShape text.now kind method at line.items) }
+{
+    match linked_program(alloc, text) {
+        Ok(program) => lines::shape(alloc, &program, kind.number(), method, at),
+        Err(_) => Err(NoMemory),
+    }
+}
+
+/// The line of a text that isn't accepted.
+fn refusal(alloc: Global, text: &[u8], fault: ProgramFault) -> Result<Vec<u8>, NoMemory>
+    requires { Refuses text.now fault }
+    ensures { IfOk result (λ line. TellsFault text.now fault line.items) }
 {
     match fault {
-        ProgramFault::NoMemory => Ok(Halt::Memory),
-        _ => Ok(Halt::Told(Status::ProgramRefused, lines::refused(alloc, fault)?)),
+        ProgramFault::Text { kind, line, column } => {
+            lines::text(alloc, kind.number(), line, column)
+        }
+        ProgramFault::Read { kind, line } => lines::read(alloc, kind.number(), line),
+        ProgramFault::Link { kind, line } => lines::link(alloc, kind.number(), line),
+        ProgramFault::Shape { kind, method, at } => shape_line(alloc, text, kind, method, at),
+        ProgramFault::NoMemory => Err(NoMemory),
     }
 }
 
 /// The program of a text.
-fn program_of(alloc: Global, text: &[u8]) -> Result<Plain, Halt>
+fn program_of(alloc: Global, text: &[u8]) -> Result<Shaped, Halt>
     ensures accepted { IfOk result (λ p. IsAccepted text.now p) }
     ensures begins { IfOk result (λ p. end_of p (start_machine p) 1048576 ≡ None) }
     ensures halts { IfErr result (TextHalts text.now) }
 {
     match accept(alloc, text) {
-        Ok(plain) => Ok(plain),
-        Err(fault) => Err(refusal(alloc, fault)?),
-    }
-}
-
-/// The linked program of a text.
-fn linked_of(alloc: Global, text: &[u8]) -> Result<Program, Halt>
-    ensures links { IfOk result (λ p. linked text.now ≡ OkOf p) }
-    ensures halts { IfErr result (LinkHalts text.now) }
-{
-    match linked_program(alloc, text) {
-        Ok(program) => Ok(program),
-        Err(fault) => Err(refusal(alloc, fault)?),
+        Ok(shaped) => Ok(shaped),
+        Err(fault) => Err(Halt::Told(Status::ProgramRefused, refusal(alloc, text, fault)?)),
     }
 }
 
@@ -81,7 +95,7 @@ fn log_of(alloc: Global, bytes: &[u8]) -> Result<Log, Halt>
 }
 
 /// The program of a file.
-pub fn load_program<F: Folder>(alloc: Global, name: &str, folder: &mut F) -> Result<Plain, Halt>
+pub fn load_program<F: Folder>(alloc: Global, name: &str, folder: &mut F) -> Result<Shaped, Halt>
     ensures told { F.is_told folder.new ≡ F.is_told folder.old }
     ensures reads { OnlyReads (folder_call F.is_told F.file F.load_faults F.store_faults folder.old folder.new) }
     ensures loads { IfOk result (LoadsProgram (folder_call F.is_told F.file F.load_faults F.store_faults folder.old folder.new) name.now) }
@@ -90,17 +104,6 @@ pub fn load_program<F: Folder>(alloc: Global, name: &str, folder: &mut F) -> Res
 {
     let text = load_file(alloc, name, folder)?;
     program_of(alloc, &text)
-}
-
-/// The linked program of a file.
-pub fn load_linked<F: Folder>(alloc: Global, name: &str, folder: &mut F) -> Result<Program, Halt>
-    ensures told { F.is_told folder.new ≡ F.is_told folder.old }
-    ensures reads { OnlyReads (folder_call F.is_told F.file F.load_faults F.store_faults folder.old folder.new) }
-    ensures loads { IfOk result (LoadsLinked (folder_call F.is_told F.file F.load_faults F.store_faults folder.old folder.new) name.now) }
-    ensures halts { IfErr result (LinkedHalts (folder_call F.is_told F.file F.load_faults F.store_faults folder.old folder.new) name.now) }
-{
-    let text = load_file(alloc, name, folder)?;
-    linked_of(alloc, &text)
 }
 
 /// The log of a file.

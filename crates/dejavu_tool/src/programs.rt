@@ -3,15 +3,14 @@ ghost use Rattle.class_linker.specs.Linking.{linking};
 ghost use Rattle.jasmin_reader.specs.Reading.{reading};
 ghost use Rattle.jasmin_text.specs.Texts.{tokens_of};
 ghost use Rattle.machine_model.specs.Machine.{end_of, start_machine};
-ghost use Rattle.vm_model.specs.Plain.{IsPlain};
 ghost use Rattle.dejavu_tool.specs.Accepting.{Gives, IsAccepted, Refuses, by_classes, by_link, by_tokens, linked};
 
 use class_linker::{LinkFault, LinkKind, link};
-use first_stage::{PlainFault, read_plain};
 use jasmin_reader::{ClassText, ReadFault, ReadKind, read_classes};
 use jasmin_text::{TextFault, TextKind, Token, tokens};
+use shape_verifier::{ShapeFault, ShapeKind, Shaped, verify};
 use std::alloc::Global;
-use vm_model::{Plain, Program};
+use vm_model::Program;
 
 /// The greatest size of a program's text, in bytes.
 const MOST_TEXT: usize = 1_048_576;
@@ -36,9 +35,12 @@ pub enum ProgramFault {
         kind: LinkKind,
         line: u32,
     },
-    /// The least line that this tool can't run yet.
-    NotYet {
-        line: u32,
+    /// The least method, by number, that has no closed table of shapes, and the instruction, counted from 0, at which the pass
+    /// over it stops.
+    Shape {
+        kind: ShapeKind,
+        method: u32,
+        at: u32,
     },
     /// Memory was not found; the text may be a program.
     NoMemory,
@@ -91,24 +93,18 @@ pub fn linked_program(alloc: Global, text: &[u8]) -> Result<Program, ProgramFaul
     link_text(alloc, text)
 }
 
-/// The program of a text in Jasmin's form, of at most 1,048,576 bytes, that this tool can run. An accepted program makes an
-/// event.
+/// The program of a text in Jasmin's form, of at most 1,048,576 bytes. An accepted program makes an event.
 ///
-/// The text's bytes are judged first, then its grammar, then its names, and last whether it is one of the first stage.
-#[tactic(auto, unfolding(crate::specs::Accepting::accepting))]
-pub fn accept(alloc: Global, text: &[u8]) -> Result<Plain, ProgramFault>
+/// The text's bytes are judged first, then its grammar, then its names, and last the shapes of its methods.
+pub fn accept(alloc: Global, text: &[u8]) -> Result<Shaped, ProgramFault>
     ensures accepted { IfOk result (λ p. IsAccepted text.now p) }
-    ensures plain { IfOk result IsPlain }
     ensures refused { IfErr result (Refuses text.now) }
     ensures begins { IfOk result (λ p. end_of p (start_machine p) 1048576 ≡ None) }
 {
-    match linked_program(alloc, text) {
-        Ok(_) => {}
-        Err(fault) => return Err(fault),
-    }
-    match read_plain(alloc, text) {
-        Ok(plain) => Ok(plain),
-        Err(PlainFault::NotYet { line }) => Err(ProgramFault::NotYet { line }),
-        Err(PlainFault::NoMemory) => Err(ProgramFault::NoMemory),
+    let program = linked_program(alloc, text)?;
+    match verify(alloc, program) {
+        Ok(shaped) => Ok(shaped),
+        Err(ShapeFault::At { kind, method, at }) => Err(ProgramFault::Shape { kind, method, at }),
+        Err(ShapeFault::NoMemory) => Err(ProgramFault::NoMemory),
     }
 }

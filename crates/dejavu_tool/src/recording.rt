@@ -72,8 +72,8 @@ pub fn record_file<F: Folder>(
     ensures records { IfOk result (λ text. Records (folder_call F.is_told F.file F.load_faults F.store_faults folder.old folder.new) program.now log.now text.items) }
     ensures halts { IfErr result (Halts (Record program.now log.now) (folder_call F.is_told F.file F.load_faults F.store_faults folder.old folder.new)) }
 {
-    let plain = load_program(alloc, program, folder)?;
-    let run = run_recorded(alloc, &plain)?;
+    let shaped = load_program(alloc, program, folder)?;
+    let run = run_recorded(alloc, shaped.plain())?;
     store_log(alloc, log, &run.bytes, folder)?;
     Ok(run.text)
 }

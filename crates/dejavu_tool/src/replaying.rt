@@ -60,7 +60,7 @@ pub fn replay_file<F: Folder>(
     ensures replays { IfOk result (λ text. Replays (folder_call F.is_told F.file F.load_faults F.store_faults folder.old folder.new) program.now log.now text.items) }
     ensures halts { IfErr result (Halts (Replay program.now log.now) (folder_call F.is_told F.file F.load_faults F.store_faults folder.old folder.new)) }
 {
-    let plain = load_program(alloc, program, folder)?;
+    let shaped = load_program(alloc, program, folder)?;
     let kept = load_log(alloc, log, folder)?;
-    text_of_run(alloc, &plain, &kept)
+    text_of_run(alloc, shaped.plain(), &kept)
 }

@@ -1,11 +1,14 @@
 ghost use Rattle.std.specs.Prelude.{◌≤◌};
+ghost use Rattle.event_machine.specs.MachineView.{IsMachineOf};
 
 use crate::{ProgramFault, Status, accept, dejavu};
+use event_machine::{Machine, TurnFault};
+use shape_verifier::ShapeKind;
 use std::alloc::Global;
 use std::test::Fail;
 use thread_driver::record_still;
 use tool_io::{Folder, MemoryFolder, MemorySink};
-use vm_model::{End, Name};
+use vm_model::{End, Entry, Lock, Name, Op, Plain, Reply};
 
 /// The sum of 1 to 10 in a static field: 23 events.
 const SUM: &[u8] =
@@ -23,9 +26,13 @@ const SUM_TEXT: &[u8] = b"events 23\nintervals 1\nend done\noutput 3\n55\n";
 
 const SHORTEST_TEXT: &[u8] = b"events 1\nintervals 1\nend done\noutput 0\n";
 
-/// A program that is linked, and that this tool can't run yet: line 6.
+/// A division, which touches its thread alone: one event.
 const DIVISION: &[u8] =
     b".class A\n.super java/lang/Object\n.method public static main([Ljava/lang/String;)V\niconst_1\niconst_1\nidiv\npop\nreturn\n.end method\n";
+
+/// A program that adds what isn't there.
+const UNDERFLOW: &[u8] =
+    b".class A\n.super java/lang/Object\n.method public static main([Ljava/lang/String;)V\niadd\npop\nreturn\n.end method\n";
 
 /// A folder with this program as P, where there is one.
 fn folder_of(alloc: Global, program: Option<&[u8]>, failing: &[u64]) -> Result<MemoryFolder, Fail> {
@@ -108,6 +115,16 @@ fn programs_are_recorded(rt: HostRuntime) -> Result<(), Fail> {
             Some(SHORTEST_LOG)
         )?
     );
+    assert!(rt;
+        records(
+            alloc,
+            Some(DIVISION),
+            &[],
+            Status::Ok,
+            SHORTEST_TEXT,
+            Some(SHORTEST_LOG)
+        )?
+    );
     Ok(())
 }
 
@@ -131,10 +148,25 @@ fn records_are_refused(rt: HostRuntime) -> Result<(), Fail> {
         )?
     );
     assert!(rt; records(alloc, Some(SUM), &[1], Status::WriteFault, b"", None)?);
+    let shape = b"program refused: shape 1 in A/main([Ljava/lang/String;)V at 0\n";
+    assert!(rt;
+        records(
+            alloc,
+            Some(UNDERFLOW),
+            &[],
+            Status::ProgramRefused,
+            shape,
+            None
+        )?
+    );
     assert!(rt;
         matches!(
-            accept(alloc, DIVISION),
-            Err(ProgramFault::NotYet { line: 6 })
+            accept(alloc, UNDERFLOW),
+            Err(ProgramFault::Shape {
+                kind: ShapeKind::Depth,
+                method: 0,
+                at: 0
+            })
         )
     );
     assert!(rt; accept(alloc, SUM).is_ok());
@@ -341,6 +373,109 @@ fn replays_are_refused(rt: HostRuntime) -> Result<(), Fail> {
     Ok(())
 }
 
+/// Two threads that each add 1 to a static, and a `main` that starts both and waits for their ends.
+const TWO_WRITERS: &[u8] =
+    b".class W\n.super java/lang/Thread\n.field static n I\n.method public <init>()V\naload_0\ninvokespecial java/lang/Thread/<init>()V\nreturn\n.end method\n.method public run()V\ngetstatic W/n I\niconst_1\niadd\nputstatic W/n I\nreturn\n.end method\n.method public static main([Ljava/lang/String;)V\nnew W\ndup\ninvokespecial W/<init>()V\nastore_1\nnew W\ndup\ninvokespecial W/<init>()V\nastore_2\naload_1\ninvokevirtual W/start()V\naload_2\ninvokevirtual W/start()V\naload_1\ninvokevirtual W/join()V\naload_2\ninvokevirtual W/join()V\nreturn\n.end method\n";
+
+/// Makes the turns of these threads.
+fn go_on(
+    alloc: Global,
+    plain: &Plain,
+    machine: &mut Machine,
+    threads: &[u32],
+) -> Result<(), TurnFault>
+    requires own { IsMachineOf plain.now machine.old }
+    ensures own { IsMachineOf plain.now machine.new }
+{
+    for thread in threads {
+        machine.turn(alloc, plain, *thread)?;
+    }
+    Ok(())
+}
+
+/// The next event of a thread in a copy of the machine.
+fn event_of_copy(
+    alloc: Global,
+    plain: &Plain,
+    machine: &Machine,
+    thread: u32,
+) -> Result<Entry, TurnFault>
+    requires own { IsMachineOf plain.now machine.now }
+{
+    let Ok(mut copy) = machine.copy(alloc) else {
+        return Err(TurnFault::NoMemory);
+    };
+    copy.turn(alloc, plain, thread)
+}
+
+/// Whether a copy of the machine after four turns of `main` makes the event of thread 1 that the machine itself makes then, which
+/// has four events until then.
+fn copy_turns_alike(alloc: Global, plain: &Plain) -> Result<bool, TurnFault> {
+    let Ok(mut machine) = Machine::new(alloc, plain, 100) else {
+        return Err(TurnFault::NoMemory);
+    };
+    go_on(alloc, plain, &mut machine, &[0, 0, 0, 0])?;
+    let first = event_of_copy(alloc, plain, &machine, 1)?;
+    let events = machine.world().clock();
+    let second = machine.turn(alloc, plain, 1)?;
+    Ok(events == 4 && first == second)
+}
+
+#[test]
+fn copies_go_on_alike(rt: HostRuntime) -> Result<(), Fail> {
+    let alloc = rt.alloc();
+    match accept(alloc, TWO_WRITERS) {
+        Ok(shaped) => assert!(rt; copy_turns_alike(alloc, shaped.plain()) == Ok(true)),
+        Err(_) => assert!(rt; false),
+    }
+    Ok(())
+}
+
+/// A `main` that enters a monitor twice and waits, and a thread that notifies it.
+const TWICE: &[u8] =
+    b".class Twice\n.super java/lang/Thread\n.field static o Ljava/lang/Object;\n.method public <init>()V\naload_0\ninvokespecial java/lang/Thread/<init>()V\nreturn\n.end method\n.method public run()V\ngetstatic Twice/o Ljava/lang/Object;\nastore_1\naload_1\nmonitorenter\naload_1\ninvokevirtual java/lang/Object/notify()V\naload_1\nmonitorexit\nreturn\n.end method\n.method public static main([Ljava/lang/String;)V\nnew java/lang/Object\ndup\ninvokespecial java/lang/Object/<init>()V\nastore_1\naload_1\nputstatic Twice/o Ljava/lang/Object;\nnew Twice\ndup\ninvokespecial Twice/<init>()V\ninvokevirtual Twice/start()V\naload_1\nmonitorenter\naload_1\nmonitorenter\naload_1\ninvokevirtual java/lang/Object/wait()V\naload_1\nmonitorexit\naload_1\nmonitorexit\nreturn\n.end method\n";
+
+/// The event that a thread makes behind the turns of these.
+fn event_behind(
+    alloc: Global,
+    plain: &Plain,
+    threads: &[u32],
+    thread: u32,
+) -> Result<Entry, TurnFault> {
+    let Ok(mut machine) = Machine::new(alloc, plain, 100) else {
+        return Err(TurnFault::NoMemory);
+    };
+    go_on(alloc, plain, &mut machine, threads)?;
+    machine.turn(alloc, plain, thread)
+}
+
+/// Whether `main` waits at its seventh event, having entered twice.
+fn waits_twice(alloc: Global, plain: &Plain) -> Result<bool, TurnFault> {
+    let wait = event_behind(alloc, plain, &[0, 0, 0, 0, 0, 0], 0)?;
+    let lock = Lock::Object(0);
+    Ok(wait.op == Op::Wait { lock } && wait.reply == Reply::Waits(2))
+}
+
+/// Whether `main` is resumed with that count once the thread has notified it.
+fn resumes_twice(alloc: Global, plain: &Plain) -> Result<bool, TurnFault> {
+    let resume = event_behind(alloc, plain, &[0, 0, 0, 0, 0, 0, 0, 1, 1, 1, 1, 1], 0)?;
+    let lock = Lock::Object(0);
+    Ok(resume.op == Op::Resume { lock, count: 2 })
+}
+
+#[test]
+fn a_wait_keeps_its_count(rt: HostRuntime) -> Result<(), Fail> {
+    let alloc = rt.alloc();
+    match accept(alloc, TWICE) {
+        Ok(shaped) => {
+            assert!(rt; waits_twice(alloc, shaped.plain()) == Ok(true));
+            assert!(rt; resumes_twice(alloc, shaped.plain()) == Ok(true));
+        }
+        Err(_) => assert!(rt; false),
+    }
+    Ok(())
+}
+
 /// A `main` that jumps for ever: each 4,096 jumps are followed by an event.
 const TURNING: &[u8] =
     b".class A\n.super java/lang/Object\n.method public static main([Ljava/lang/String;)V\nLoop:\ngoto Loop\n.end method\n";
@@ -357,10 +492,10 @@ fn ends(
     requires some { 1 ≤ budget }
     requires limit { budget ≤ 1048576 }
 {
-    let Ok(plain) = accept(alloc, text) else {
+    let Ok(shaped) = accept(alloc, text) else {
         return Ok(false);
     };
-    let Ok(run) = record_still(alloc, &plain, budget) else {
+    let Ok(run) = record_still(alloc, shaped.plain(), budget) else {
         return Ok(false);
     };
     Ok(run.end == end && run.log.events() == events && run.output.as_slice() == output)
@@ -426,6 +561,8 @@ fn programs_are_checked(rt: HostRuntime) -> Result<(), Fail> {
         )?
     );
     assert!(rt; checks(alloc, None, &[], Status::Absent, b"absent P\n")?);
+    let shape = b"program refused: shape 1 in A/main([Ljava/lang/String;)V at 0\n";
+    assert!(rt; checks(alloc, Some(UNDERFLOW), &[], Status::ProgramRefused, shape)?);
     assert!(rt; checks(alloc, Some(SUM), &[0], Status::ReadFault, fault)?);
     Ok(())
 }

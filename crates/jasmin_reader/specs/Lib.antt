@@ -9,6 +9,8 @@ pub mod Instructions
 pub mod Directives
 pub mod Forms
 pub mod Grammar
+pub mod Labels
+pub mod LabelsView
 pub mod Assembly
 pub mod Turned
 pub mod Reading

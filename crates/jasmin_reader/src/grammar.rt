@@ -1,13 +1,15 @@
 // Which line may follow which.
-ghost use Rattle.std.specs.Prelude.{◌≡◌, ◌∷◌, [], OnOk, bytes_eq, Ok};
+ghost use Rattle.std.specs.Prelude.{◌≡◌, ◌∷◌, [], OnOk, bytes_eq, Ok, true, false};
 ghost use Rattle.std.specs.List.{list_any};
 ghost use Rattle.jasmin_reader.specs.Faults.{Gives};
 ghost use Rattle.jasmin_reader.specs.Grammar as spec;
+ghost use Rattle.jasmin_reader.specs.Labels.{labels_in, are_new};
 
 use crate::fault::{FormError, ReadKind};
 use crate::form::{Form, form_of};
+use crate::labels::Labels;
 use crate::lexeme::{Lexeme, Line};
-use crate::words::{is, is_word};
+use crate::words::is_word;
 use std::alloc::Global;
 use std::marker::Model;
 use vm_model::{Name, NoMemory};
@@ -20,7 +22,7 @@ pub struct State {
     is_inside: bool,
     has_stack: bool,
     has_locals: bool,
-    labels: Vec<Name>,
+    labels: Labels,
 }
 
 impl Model for State {
@@ -28,19 +30,13 @@ impl Model for State {
 
     ghost Value = { PlainState };
 
-    ghost view = { λ s. record { has_class = s.has_class; has_super = s.has_super; is_inside = s.is_inside; has_stack = s.has_stack; has_locals = s.has_locals; labels = s.labels.items } };
+    ghost view = { λ s. record { has_class = s.has_class; has_super = s.has_super; is_inside = s.is_inside; has_stack = s.has_stack; has_locals = s.has_locals; labels = s.labels } };
 }
 
 fn only_if(kind: ReadKind, is_fault: bool, rest: Option<ReadKind>) -> Option<ReadKind>
     ensures { result ≡ spec.only_if kind is_fault rest }
 {
     if is_fault { Some(kind) } else { rest }
-}
-
-fn is_among(label: &Name, labels: &[Name]) -> bool
-    ensures { result ≡ list_any (bytes_eq label.now) labels.now }
-{
-    labels.iter().any(|other| is(label.bytes(), other.bytes()))
 }
 
 fn may_stand_first(words: &[Lexeme]) -> bool
@@ -82,7 +78,7 @@ impl State {
             is_inside: false,
             has_stack: false,
             has_locals: false,
-            labels: Vec::new(alloc),
+            labels: Labels::new(alloc),
         }
     }
 
@@ -96,13 +92,13 @@ impl State {
     fn has_label(&self, labels: &[Name]) -> bool
         ensures { result ≡ spec.has_label self.now labels.now }
     {
-        labels.iter().any(|label| is_among(label, &self.labels))
+        labels.iter().any(|label| self.labels.has(label.bytes()))
     }
 
     fn has_this_label(&self, label: &Name) -> bool
         ensures { result ≡ spec.has_label self.now (label.now ∷ []) }
     {
-        is_among(label, &self.labels)
+        self.labels.has(label.bytes())
     }
 
     fn outside_methods(&self, rest: Option<ReadKind>) -> Option<ReadKind>
@@ -174,13 +170,14 @@ impl State {
     }
 
     fn add_label(&mut self, alloc: Global, label: &Name) -> Result<(), NoMemory>
+        requires { list_any (bytes_eq label.now) self.old.labels ≡ false }
         ensures { OnOk result (self.new ≡ spec.labelled (label.now ∷ []) self.old) }
     {
-        self.labels.push(Name::of(alloc, label.bytes())?)?;
-        Ok(())
+        self.labels.add(alloc, label.bytes())
     }
 
     fn add_labels(&mut self, alloc: Global, labels: &[Name]) -> Result<(), NoMemory>
+        requires { are_new self.old.labels labels.now ≡ true }
         ensures { OnOk result (self.new ≡ spec.labelled labels.now self.old) }
     {
         let mut rest = labels;
@@ -191,8 +188,9 @@ impl State {
         Ok(())
     }
 
-    /// What has begun behind a line.
+    /// What has begun behind a line whose labels are new.
     pub fn go_on(&mut self, alloc: Global, form: &Form) -> Result<(), NoMemory>
+        requires { are_new self.old.labels (labels_in form.now) ≡ true }
         ensures { OnOk result (self.new ≡ spec.next_state form.now self.old) }
     {
         match form {
@@ -205,7 +203,7 @@ impl State {
                 self.is_inside = true;
                 self.has_stack = false;
                 self.has_locals = false;
-                self.labels = Vec::new(alloc);
+                self.labels = Labels::new(alloc);
             }
             Form::End => self.is_inside = false,
             Form::StackLimit(_) => self.has_stack = true,

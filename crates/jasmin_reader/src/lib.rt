@@ -8,6 +8,7 @@ mod fault;
 mod form;
 mod grammar;
 mod instructions;
+mod labels;
 mod lexeme;
 mod mnemonic;
 mod names;

@@ -615,6 +615,36 @@ fn bodies_refused(rt: HostRuntime) -> Result<(), Fail> {
     Ok(())
 }
 
+/// A body of so many labels, each before an instruction.
+fn labels_up_to(alloc: Global, count: u32) -> Result<String, NoMemory> {
+    let mut body = String::new(alloc);
+    for n in 0..count {
+        let line = format!(in alloc; "L{n}:\nnop\n")?;
+        body.push_str(&line)?;
+    }
+    Ok(body)
+}
+
+#[test]
+fn many_labels_read(rt: HostRuntime) -> Result<(), Fail> {
+    let alloc = rt.alloc();
+    let body = labels_up_to(alloc, 3_000)?;
+    let text = with_body(alloc, &body)?;
+    assert!(rt; canonical(alloc, &text)?.as_slice() == text.as_bytes());
+    Ok(())
+}
+
+#[test]
+fn second_label_far_from_the_first(rt: HostRuntime) -> Result<(), Fail> {
+    let alloc = rt.alloc();
+    let body = labels_up_to(alloc, 3_000)?;
+    for (last, line) in [("L0:\n", 6_004), ("nop\nL1500: nop\n", 6_005)] {
+        let text = with_body(alloc, &format!(in alloc; "{body}{last}")?)?;
+        assert_eq!(rt; fault_of(alloc, &text)?, Some((9, line)), "{last}");
+    }
+    Ok(())
+}
+
 /// The lines of classes and of what stands in them.
 fn lines_of(alloc: Global, classes: &[ClassText]) -> Result<Vec<u32>, NoMemory> {
     let mut lines = Vec::new(alloc);

@@ -4,6 +4,7 @@
 mod names;
 mod report;
 
+pub use names::put_method;
 pub use report::{end_text, run_text};
 
 #[cfg(test)]

@@ -21,25 +21,25 @@ use Rattle.shape_laws.specs.States.{GivenFits, FitsFrame, Awaits, is_made_op, is
 use Rattle.shape_laws.specs.Linked.{is_linked_instr, IsLinkedMethod, IsWellLinked}
 use Rattle.shape_laws.proofs.Tests.{all_there}
 use Rattle.shape_laws.proofs.Taking.{fits_at}
-use Rattle.shape_laws.proofs.PlainInstructions.{Moves}
+use Rattle.shape_laws.proofs.Moving.{Moves}
 use Rattle.shape_laws.proofs.Agreement.{Done, CallFits, Agrees}
 use Rattle.shape_laws.proofs.Calls.{fits_long}
 use Rattle.shape_laws.proofs.Instructions.{method_linked, agrees}
 
 -- ---- the instruction at a frame
 
-record AtInstr (p : PlainProgram) (table : Table) (f : Frame) (s : Shape) : Type 0 where
-  instr : Instr
-  is_there : instr_at p f.method f.place ≡ Some instr
-  linked : is_linked_instr p instr ≡ true
-  follows : Follows p table f.method f.place (flow p f.method instr s)
+pub record AtInstr (p : PlainProgram) (table : Table) (f : Frame) (s : Shape) : Type 0 where
+  pub instr : Instr
+  pub is_there : instr_at p f.method f.place ≡ Some instr
+  pub linked : is_linked_instr p instr ≡ true
+  pub follows : Follows p table f.method f.place (flow p f.method instr s)
 
 at_instr : (p : PlainProgram) (table : Table) (f : Frame) (s : Shape) (m : PlainMethod) (o : Option Instr) → IsLinkedMethod p m → slice_get m.code f.place ≡ o → instr_at p f.method f.place ≡ o
     → FollowsAt p table f.method f.place s o → AtInstr p table f s
 at_instr p table f s m None linked at e follows = absurd follows
 at_instr p table f s m (Some i) linked at e follows = record { instr = i; is_there = e; linked = all_there (λ (j : Instr). IsTrue (is_linked_instr p j)) m.code f.place i linked.code at; follows = follows }
 
-at_frame : (p : PlainProgram) (table : Table) (f : Frame) → IsWellLinked p → IsShapeTable p table → (fit : FitsFrame p table f) → AtInstr p table f fit.at.shape
+pub at_frame : (p : PlainProgram) (table : Table) (f : Frame) → IsWellLinked p → IsShapeTable p table → (fit : FitsFrame p table f) → AtInstr p table f fit.at.shape
 at_frame p table f linked shapes fit =
     let m = fit.method in
     let has = subst (HasShapes p table f.method) fit.is_method (shapes f.method) in

@@ -22,7 +22,7 @@ use Rattle.machine_model.specs.Shapes.{Shape, Flow, Next, Branch, Leaves, Refuse
 use Rattle.machine_model.specs.Shapes.{Jump as JumpFlow}
 use Rattle.shape_laws.specs.Fitting.{is_made, FitsKinds, FitsShape}
 use Rattle.shape_laws.specs.States.{GivenFits, is_made_op, is_made_reply}
-use Rattle.shape_laws.proofs.PlainInstructions.{Moves}
+use Rattle.shape_laws.proofs.Moving.{Moves}
 
 -- ---- operations
 

@@ -36,7 +36,7 @@ use Rattle.shape_laws.proofs.Supers.{extends_itself}
 use Rattle.shape_laws.proofs.BuiltIns.{text_fits, stream_fits, field_class, own_class, field_inherited, object_agrees, instance_agrees, lock_agrees, stream_agrees, array_agrees, text_agrees}
 use Rattle.shape_laws.proofs.Taking.{of_assignable}
 use Rattle.shape_laws.proofs.Operands.{any_agrees, such_agrees, int_agrees, number_agrees, set_agrees, place_agrees, declared_agrees, true_agrees, store_fits}
-use Rattle.shape_laws.proofs.PlainInstructions.{Moves}
+use Rattle.shape_laws.proofs.Moving.{Moves}
 use Rattle.shape_laws.proofs.Agreement.{Agrees, AskFits, asks_nothing, asks_value, asks_new, asks_wait, unit_only, unit_or_raise, begins_or_raise, goes, branches, replied}
 use Rattle.shape_laws.proofs.Calls.{static_agrees, on_agrees, run_agrees}
 

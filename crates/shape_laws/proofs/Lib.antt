@@ -3,9 +3,7 @@ pub mod Supers
 pub mod BuiltIns
 pub mod Taking
 pub mod Operands
-pub mod FirstStage
-pub mod PlainInstructions
-pub mod FirstEvent
+pub mod Moving
 pub mod Agreement
 pub mod Calls
 pub mod Instructions
@@ -13,4 +11,7 @@ pub mod Actions
 pub mod Kept
 pub mod Worlds
 pub mod Machines
-pub mod PlainPrograms
+pub mod EarlyFrames
+pub mod EarlyActions
+pub mod EarlySteps
+pub mod FirstOperation

@@ -6,7 +6,7 @@ use Rattle.vm_model.specs.declared.value.Kind.{Kind}
 use Rattle.vm_model.specs.Program.{PlainProgram}
 use Rattle.machine_model.specs.Declarations.{declarations_of}
 use Rattle.machine_model.specs.Kinds.{fits}
-use Rattle.machine_model.specs.Frames.{Frame, LocalState, Running, Plain}
+use Rattle.machine_model.specs.Frames.{Frame}
 use Rattle.machine_model.specs.Shapes.{Shape, Table, shape_at}
 
 -- there are objects of this class: texts and the stream are values of their own, and Runnable is implemented only
@@ -51,13 +51,3 @@ pub record FitsAt (p : PlainProgram) (table : Table) (f : Frame) : Type 0 where
   pub shape : Shape
   pub is_there : shape_at table f.method f.place ≡ Some shape
   pub fits_it : FitsShape p shape f
-
--- main's only frame, which holds no lock
-pub record IsMainFrame (p : PlainProgram) (f : Frame) : Type 0 where
-  pub method : f.method ≡ p.main
-  pub lock : f.lock ≡ None
-
--- a thread that runs main alone fits the table
-abbrev pub FitsMain : PlainProgram → Table → LocalState → Type 0
-FitsMain p table (Running (f ∷ []) Plain) = IsMainFrame p f × FitsAt p table f
-FitsMain p table _ = ⊥

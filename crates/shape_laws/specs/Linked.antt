@@ -1,11 +1,13 @@
 -- What linking gives, as far as the laws need it.
-use Rattle.std.specs.Prelude.{◌≡◌, ℕ, ◌-◌, ◌==◌, Bool, true, false, not, ◌&&◌, ◌||◌, nat_le, IsTrue, IfSome, is_some, is_none, [], ◌∷◌, length, Option, Some, None}
+use Rattle.std.specs.Prelude.{◌≡◌, ℕ, ◌-◌, ◌==◌, Bool, true, false, not, ◌&&◌, ◌||◌, nat_lt, nat_le, IsTrue, IfSome, is_some, is_none, [], ◌∷◌, length, Option, Some, None}
 use Rattle.std.specs.List.{AllByRecursion}
 use Rattle.vm_model.specs.declared.value.Kind.TheVariants as kind
 use Rattle.vm_model.specs.declared.program.StaticSlot.{StaticSlot}
 use Rattle.vm_model.specs.declared.instr.Instr.{Instr}
 use Rattle.vm_model.specs.declared.instr.Instr.TheVariants as instr
 use Rattle.vm_model.specs.Program.{PlainClass, PlainMethod, PlainProgram, class_at, method_at}
+use Rattle.machine_model.specs.Declarations.{declarations_of}
+use Rattle.machine_model.specs.Kinds.{is_class}
 use Rattle.shape_laws.specs.Fitting.{has_objects, is_of}
 
 -- `run()V` of this class
@@ -50,3 +52,17 @@ pub record IsWellLinked (p : PlainProgram) : Type 0 where
   pub main : HasLinkedMain (method_at p p.main)
   -- a static begins with a value of its kind
   pub statics : AllByRecursion (λ (s : StaticSlot). IsTrue (is_of p s.start s.kind)) p.statics
+
+-- the class of which an instruction makes an object is there, and the text that it pushes
+abbrev pub names_what_is_there : PlainProgram → Instr → Bool
+names_what_is_there p (instr.New class) = is_class (declarations_of p) class
+names_what_is_there p (instr.PushText text) = nat_lt text (length p.texts)
+names_what_is_there p _ = true
+
+-- the class of a method is there too: Thread's own methods take a receiver, and all others are of classes of the program
+pub record MethodNamesWhatIsThere (p : PlainProgram) (m : PlainMethod) : Type 0 where
+  pub code : AllByRecursion (λ (i : Instr). IsTrue (names_what_is_there p i)) m.code
+  pub class : ((m.class == 1 && not m.is_static) || is_some (class_at p m.class)) ≡ true
+
+pub record NamesWhatIsThere (p : PlainProgram) : Type 0 where
+  pub methods : AllByRecursion (MethodNamesWhatIsThere p) p.methods

@@ -3,7 +3,6 @@ ghost use Rattle.vm_model.specs.declared.op.Op.{Op};
 ghost use Rattle.vm_model.specs.declared.op.Reply.{Reply};
 ghost use Rattle.vm_model.specs.declared.value.ObjRef.{ObjRef};
 ghost use Rattle.vm_model.specs.Program.{PlainProgram};
-ghost use Rattle.vm_model.specs.Plain.{IsPlain};
 ghost use Rattle.machine_model.specs.Declarations.{declarations_of};
 ghost use Rattle.machine_model.specs.Kinds.{extends};
 ghost use Rattle.machine_model.specs.Frames.{Frame, LocalState, Ended};
@@ -16,7 +15,7 @@ ghost use Rattle.machine_model.specs.Machine.{MachineState, end_of, run, start_m
 ghost use Rattle.machine_model.specs.Shapes.{Table, IsShapeTable, IsVerified};
 ghost use Rattle.shape_laws.specs.Fitting.{has_objects};
 ghost use Rattle.shape_laws.specs.States.{FitsFrame, FitsTable, is_made_op, is_made_reply};
-ghost use Rattle.shape_laws.specs.Linked.{IsWellLinked, has_thread_run};
+ghost use Rattle.shape_laws.specs.Linked.{IsWellLinked, NamesWhatIsThere, has_thread_run};
 ghost use Rattle.shape_laws.specs.Worlds.{FitsMachine, FitsWorld};
 
 /// The states with which threads begin fit each closed table of a linked program: that of `main`, and that of a thread of
@@ -57,12 +56,8 @@ pub fn worlds_fit()
     ensures worlds { (p : PlainProgram) (s : SharedState) (t : ℕ) (o : Op) → FitsWorld p s → is_made_op p o ≡ true → is_enabled (declarations_of p) s t o ≡ true → FitsWorld p (apply (declarations_of p) s t o).world }
 {}
 
-/// Programs of the first stage are linked, so that these laws hold of them.
-pub fn first_stage_is_linked()
-    ensures { (p : PlainProgram) → IsPlain p → IsWellLinked p }
-{}
-
-/// A verified program of the first stage makes an event under each budget that allows one: no run of it ends before.
-pub fn first_event_exists()
-    ensures { (p : PlainProgram) (budget : ℕ) → IsPlain p → IsVerified p → 1 ≤ budget → end_of p (start_machine p) budget ≡ None }
+/// A verified program makes an event under each budget that allows one: no run of it ends before. Linking gives that it
+/// names only what is there.
+pub fn verified_program_begins()
+    ensures { (p : PlainProgram) (budget : ℕ) → IsWellLinked p → NamesWhatIsThere p → IsVerified p → 1 ≤ budget → end_of p (start_machine p) budget ≡ None }
 {}

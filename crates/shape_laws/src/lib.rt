@@ -4,6 +4,6 @@
 mod laws;
 
 pub use laws::{
-    first_event_exists, first_stage_is_linked, first_states_fit, local_steps_fit,
-    operands_are_found, replies_fit, runs_fit, worlds_fit,
+    first_states_fit, local_steps_fit, operands_are_found, replies_fit, runs_fit,
+    verified_program_begins, worlds_fit,
 };

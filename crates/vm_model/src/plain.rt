@@ -3,8 +3,7 @@ ghost use Rattle.std.specs.Prelude.{◌≡◌};
 use crate::program::Program;
 use std::marker::Model;
 
-/// A linked program that was accepted, within the bounds that a machine needs. The reader that makes it says what else holds
-/// of it.
+/// A linked program within the bounds that a machine needs.
 #[derive(Debug, Drop)]
 pub struct Plain {
     program: Program,
@@ -24,7 +23,7 @@ impl Model for Plain {
 impl Plain {
     ghost use Rattle.vm_model.specs.Plain.{IsLinked};
 
-    /// An accepted program.
+    /// The program, as a machine takes it.
     pub fn of(program: Program) -> Plain
         requires { IsLinked program }
         ensures { result ≡ program }

@@ -1,9 +1,13 @@
--- What a text is read as makes an event.
-use Rattle.std.proofs.Common.{arith, ◌≤◌, length}
-use Rattle.jasmin_laws.proofs.Verified.{read_makes_event}
+-- A text's program is within the machine's bounds, and makes an event.
+use Rattle.std.proofs.Common.{◌≡◌, Ok, sym, subst, arith}
+use Rattle.dejavu_tool.specs.Accepting.{linked}
+use Rattle.dejavu_tool.proofs.Linked.{begins, is_linked}
 use Rattle.dejavu_tool.proofs.programs.accept.Goals as goal
 
-pub returns-in-Ok-read_plain-clause-begins : goal.returns-in-Ok-read_plain-clause-begins
-returns-in-Ok-read_plain-clause-begins c =
-    let small : length c.args.text.now ≤ 1048576 = c.in-Ok.ensures.small in
-    read_makes_event c.args.text.now _ 1048576 c.in-Ok-read_plain.ensures.read small (omega arith)
+pub verify-requires : goal.verify-requires
+verify-requires c = record { linked = is_linked c.args.text.now c.in_ok-program.program c.in_ok-program.ensures.gives }
+
+pub returns-in-Ok-clause-begins : goal.returns-in-Ok-clause-begins
+returns-in-Ok-clause-begins c =
+    let links = subst (λ p. linked c.args.text.now ≡ Ok p) (sym c.in-Ok.ensures.same) c.in_ok-program.ensures.gives in
+    begins c.args.text.now c.in-Ok.shaped 1048576 links c.in-Ok.ensures.verified (omega arith)

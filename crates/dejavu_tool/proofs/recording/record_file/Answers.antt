@@ -16,7 +16,7 @@ returns-in_err-store_log-clause-halts g c =
     (folder_call told file loads stores c.args.folder.now c.load_program.new.folder)
     (folder_call told file loads stores c.load_program.new.folder c.store_log.new.folder)
     (folder_call told file loads stores c.args.folder.now c.store_log.new.folder)
-    c.args.program.now c.args.log.now c.in_ok-plain.plain c.in_err-store_log.field-0.0
+    c.args.program.now c.args.log.now c.in_ok-shaped.shaped c.in_err-store_log.field-0.0
     (record {
       told = c.load_program.ensures.told;
       c_told = refl;
@@ -26,4 +26,4 @@ returns-in_err-store_log-clause-halts g c =
       stores = sym c.load_program.ensures.reads.stores;
       stores_after = refl;
     })
-    c.in_ok-plain.ensures.loads c.in_err-store_log.ensures.halts)
+    c.in_ok-shaped.ensures.loads c.in_err-store_log.ensures.halts)

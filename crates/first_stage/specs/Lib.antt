@@ -1,9 +1,0 @@
-pub mod Lines
-pub mod Words
-pub mod Mnemonics
-pub mod Texts
-pub mod Forms
-pub mod Kept
-pub mod Seen
-pub mod Rules
-pub mod Reading

@@ -1,6 +1,0 @@
-pub mod Given
-pub mod KeptLines
-pub mod CountedShapes
-pub mod Flows
-pub mod Reached
-pub mod Verified

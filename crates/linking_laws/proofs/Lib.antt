@@ -1,0 +1,15 @@
+pub mod Lists
+pub mod Codes
+pub mod Statics
+pub mod Judged
+pub mod Keys
+pub mod Numbered
+pub mod Bodies
+pub mod Linkings
+pub mod There
+pub mod WellLinked
+pub mod NamesThere
+pub mod ReadNames
+pub mod First
+pub mod FaultLists
+pub mod NamedFault

@@ -1,0 +1,55 @@
+//! Laws of merging and of the pass. Each function does nothing: its contract is the law.
+ghost use Rattle.std.specs.Prelude.{◌≡◌, ◌<◌, ℕ, IsTrue, Bool, true, false, List, length, Option, Some, Result, Ok, Err};
+ghost use Rattle.vm_model.specs.Program.{PlainMethod, PlainProgram, instr_at, method_at};
+ghost use Rattle.vm_model.specs.declared.instr.Instr.{Instr};
+ghost use Rattle.machine_model.specs.Shapes.{Shape, Table, Flow, Takes, TakesAt, Follows, HasShapes, IsVerified, flow, shape_at};
+ghost use Rattle.shape_verifier.specs.declared.fault.Refusal.{Refusal};
+ghost use Rattle.shape_verifier.specs.Merging.{merged_shape, takes};
+ghost use Rattle.shape_verifier.specs.Passing.{PassState, EndsWith, HasTable, begun, turned};
+ghost use Rattle.shape_verifier.specs.Kept.{IsBelow, IsBelowTable};
+
+/// Merging gives the least shape that takes both: what it gives takes both, and whatever takes both takes it too.
+pub fn merging_is_least()
+    ensures takes_new { (p : PlainProgram) (new old merged : Shape) → merged_shape p new old ≡ Ok merged → length new.locals ≡ length old.locals → Takes p new merged }
+    ensures takes_old { (p : PlainProgram) (new old merged : Shape) → merged_shape p new old ≡ Ok merged → length new.locals ≡ length old.locals → Takes p old merged }
+    ensures least { (p : PlainProgram) (new old both : Shape) → Takes p new both → Takes p old both → IsBelow p (merged_shape p new old) both }
+{}
+
+/// One shape takes another where the test says so. It takes itself, and what it takes takes no more than it does.
+pub fn taking_is_an_order()
+    ensures test { (p : PlainProgram) (new old : Shape) → Takes p new old → IsTrue (takes p new old) }
+    ensures tested { (p : PlainProgram) (new old : Shape) → IsTrue (takes p new old) → Takes p new old }
+    ensures itself { (p : PlainProgram) (s : Shape) → Takes p s s }
+    ensures passes { (p : PlainProgram) (r s t : Shape) → Takes p r s → Takes p s t → Takes p r t }
+{}
+
+/// An instruction that a closed table follows from one shape, it follows from each shape that this one takes.
+pub fn flow_is_monotone()
+    ensures { (p : PlainProgram) (table : Table) (n place : ℕ) (i : Instr) (s t : Shape) → Takes p s t → Follows p table n place (flow p n i t) → Follows p table n place (flow p n i s) }
+{}
+
+/// Each shape that the pass has reached is taken by the shape at the same place of any closed table.
+pub fn pass_stays_below()
+    ensures begins { (p : PlainProgram) (table : Table) (n : ℕ) (m : PlainMethod) → method_at p n ≡ Some m → HasShapes p table n (Some m) → IsBelowTable p table n 0 (begun m) }
+    ensures goes_on { (p : PlainProgram) (table : Table) (n : ℕ) (m : PlainMethod) (state next : PassState) → method_at p n ≡ Some m → HasShapes p table n (Some m) → IsBelowTable p table n 0 state → turned p n m state ≡ Some (Ok next) → IsBelowTable p table n 0 next }
+{}
+
+/// A pass that stops shows that the method has no closed table.
+pub fn pass_that_stops_shows_none()
+    ensures { (p : PlainProgram) (n : ℕ) (m : PlainMethod) (refusal : Refusal) → method_at p n ≡ Some m → EndsWith p n m (Err refusal) → HasTable p n → ⊥ }
+{}
+
+/// A pass that ends gives a closed table.
+pub fn pass_that_ends_gives_table()
+    ensures { (p : PlainProgram) (n : ℕ) (m : PlainMethod) (state : PassState) → method_at p n ≡ Some m → EndsWith p n m (Ok state) → HasTable p n }
+{}
+
+/// A pass ends in one way only.
+pub fn pass_ends_one_way()
+    ensures { (p : PlainProgram) (n : ℕ) (m : PlainMethod) (a b : Result PassState Refusal) → EndsWith p n m a → EndsWith p n m b → a ≡ b }
+{}
+
+/// A program is verified where each of its methods has a closed table.
+pub fn tables_verify()
+    ensures { (p : PlainProgram) → ((n : ℕ) → n < length p.methods → HasTable p n) → IsVerified p }
+{}

@@ -1,0 +1,39 @@
+ghost use Rattle.std.specs.Prelude.{◌≡◌, ◌↔◌, ◌++◌, ℕ, ℤ, false, true, List, length, drop, Some, Ok};
+ghost use Rattle.std.specs.Fmt.{signed_decimal};
+ghost use Rattle.std.specs.List.{AllByRecursion};
+ghost use Rattle.jasmin_text.specs.declared.token.Token.{Token};
+ghost use Rattle.jasmin_text.specs.Numbers.{number_of};
+ghost use Rattle.jasmin_text.specs.Pieces.{string_behind};
+ghost use Rattle.jasmin_text.specs.Texts.{tokens_of};
+ghost use Rattle.jasmin_reader.specs.declared.lexeme.Lexeme.{Lexeme};
+ghost use Rattle.jasmin_reader.specs.Canonical.{quoted, canonical};
+ghost use Rattle.jasmin_reader.specs.Plain.{PlainClassText};
+ghost use Rattle.jasmin_reader.specs.Reading.{reading};
+ghost use Rattle.text_laws.specs.Sizes.{IsSmall, is_quotable};
+ghost use Rattle.text_laws.specs.Spelled.{spelled, IsSpellableLine};
+ghost use Rattle.text_laws.specs.Alike.{HasLines, AreAlike, ReadsAlike};
+
+/// A number of 32 bits is read from what is written of it.
+pub fn numbers_read_back()
+    ensures { (n : ℤ) → IsSmall n → number_of (signed_decimal n) ≡ Some n }
+{}
+
+/// A text between quotes is read from what is written of it, whatever comes behind it.
+pub fn strings_read_back()
+    ensures { (text behind : List ℕ) → is_quotable text ≡ true → string_behind false 1 (drop 1 (quoted text) ++ behind) ≡ Ok (text, length (quoted text)) }
+{}
+
+/// Lines of words that are spelled, a line feed behind each, read as these lines, numbered from 1 on.
+pub fn lines_read_back()
+    ensures { (lines : List (List Lexeme)) → AllByRecursion IsSpellableLine lines → HasLines (spelled lines) lines }
+{}
+
+/// The canonical text of classes that were read reads as the same classes in all but line numbers.
+pub fn canonical_text_reads_the_same()
+    ensures { (text : List ℕ) (tokens : List Token) (classes : List PlainClassText) → tokens_of text ≡ Ok tokens → reading text tokens ≡ Ok classes → ReadsAlike (canonical classes) classes }
+{}
+
+/// Two texts that were read have the same canonical text exactly if their classes are the same in all but line numbers.
+pub fn canonical_text_tells_classes_apart()
+    ensures { (text : List ℕ) (tokens : List Token) (classes : List PlainClassText) (second : List ℕ) (second_tokens : List Token) (others : List PlainClassText) → tokens_of text ≡ Ok tokens → reading text tokens ≡ Ok classes → tokens_of second ≡ Ok second_tokens → reading second second_tokens ≡ Ok others → (canonical classes ≡ canonical others) ↔ AreAlike classes others }
+{}

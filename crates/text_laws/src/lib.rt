@@ -1,0 +1,9 @@
+//! Laws of texts. Each function does nothing: its contract is the law.
+#![tactic(auto)]
+
+mod laws;
+
+pub use laws::{
+    canonical_text_reads_the_same, canonical_text_tells_classes_apart, lines_read_back,
+    numbers_read_back, strings_read_back,
+};

@@ -1,0 +1,8 @@
+; What is never reached has no shape, so nothing is wrong with the addition behind the return.
+.class public A
+.super java/lang/Object
+.method public static main([Ljava/lang/String;)V
+return
+iadd
+ireturn
+.end method

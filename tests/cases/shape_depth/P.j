@@ -1,0 +1,7 @@
+.class public A
+.super java/lang/Object
+.method public static main([Ljava/lang/String;)V
+iadd
+pop
+return
+.end method

@@ -1,0 +1,4 @@
+.class public A
+.super java/lang/Object
+.method public static main([Ljava/lang/String;)V
+.end method

@@ -1,0 +1,9 @@
+.class public A
+.super java/lang/Object
+.method public static main([Ljava/lang/String;)V
+return
+.end method
+.method static f(II)V
+.limit locals 1
+return
+.end method
