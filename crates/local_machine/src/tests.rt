@@ -6,8 +6,8 @@ use crate::Local;
 use std::alloc::Global;
 use std::test::Fail;
 use vm_model::{
-    Class, FaultKind, Instr, Kind, Lock, Method, Name, NoMemory, ObjRef, Op, Plain, Program, Reply,
-    Value,
+    Class, FaultKind, Instr, Kind, Lock, Method, Name, NoMemory, ObjRef, Op, Piece, Plain, Program,
+    Reply, Value,
 };
 
 /// A static method of class 33 with as many int parameters, and this code.
@@ -145,13 +145,18 @@ fn makes(alloc: Global, case: &(i32, i32, Instr, i32)) -> Result<bool, NoMemory>
     Ok(values.first().copied() == Some(Value::Int(wanted)))
 }
 
-/// Whether a jump on two numbers, the second one on top, is taken as wanted.
-fn jumps(alloc: Global, case: &(i32, i32, Instr, bool)) -> Result<bool, NoMemory> {
-    let (x, y, instr, wanted) = *case;
+/// Whether a jump is taken as wanted behind these two instructions.
+fn goes(
+    alloc: Global,
+    first: Instr,
+    second: Instr,
+    jump: Instr,
+    wanted: bool,
+) -> Result<bool, NoMemory> {
     let code = [
-        Instr::Push(x),
-        Instr::Push(y),
-        instr,
+        first,
+        second,
+        jump,
         Instr::PushNull,
         Instr::PutStatic(0),
         Instr::Push(1),
@@ -160,6 +165,18 @@ fn jumps(alloc: Global, case: &(i32, i32, Instr, bool)) -> Result<bool, NoMemory
     let values = put(alloc, &code)?;
     let taken = values.first().copied() == Some(Value::Int(1));
     Ok(taken == wanted)
+}
+
+/// Whether a jump on two numbers, the second one on top, is taken as wanted.
+fn jumps(alloc: Global, case: &(i32, i32, Instr, bool)) -> Result<bool, NoMemory> {
+    let (x, y, jump, wanted) = *case;
+    goes(alloc, Instr::Push(x), Instr::Push(y), jump, wanted)
+}
+
+/// Whether a jump on references is taken as wanted.
+fn compares(alloc: Global, case: &(Instr, Instr, Instr, bool)) -> Result<bool, NoMemory> {
+    let (first, second, jump, wanted) = *case;
+    goes(alloc, first, second, jump, wanted)
 }
 
 /// Whether an instruction orders 1, 2 and 3, of which 3 is on top, as wanted, from the top; 0 stands for no value.
@@ -199,15 +216,15 @@ fn asks(alloc: Global, main: &[Instr], wanted: Option<Op>) -> Result<bool, NoMem
     Ok(local.operation() == wanted)
 }
 
-/// Whether these three instructions of main end in this fault at this place.
-fn fails(alloc: Global, case: &(Instr, Instr, Instr, FaultKind, u32)) -> Result<bool, NoMemory> {
-    let (first, second, third, kind, at) = *case;
+/// Whether these instructions of main end in this fault at this place.
+fn fails(alloc: Global, case: &([Instr; 4], FaultKind, u32)) -> Result<bool, NoMemory> {
+    let (code, kind, at) = *case;
     let fault = Op::Fault {
         kind,
         method: 0,
         at,
     };
-    asks(alloc, &[first, second, third], Some(fault))
+    asks(alloc, &code, Some(fault))
 }
 
 const LEAST: i32 = -2147483648;
@@ -282,70 +299,316 @@ const JUMPS: [(i32, i32, Instr, bool); 30] = [
     (9, 7, Instr::Nop, false),
 ];
 
-const FAULTS: [(Instr, Instr, Instr, FaultKind, u32); 9] = [
+const REFERENCES: [(Instr, Instr, Instr, bool); 12] = [
+    (Instr::PushNull, Instr::PushNull, Instr::IfAcmpeq(5), true),
+    (Instr::PushNull, Instr::PushNull, Instr::IfAcmpne(5), false),
     (
-        Instr::Push(5),
-        Instr::Push(0),
-        Instr::Idiv,
+        Instr::PushNull,
+        Instr::PushText(1),
+        Instr::IfAcmpeq(5),
+        false,
+    ),
+    (
+        Instr::PushNull,
+        Instr::PushText(1),
+        Instr::IfAcmpne(5),
+        true,
+    ),
+    (
+        Instr::PushText(1),
+        Instr::PushText(1),
+        Instr::IfAcmpeq(5),
+        true,
+    ),
+    (
+        Instr::PushText(1),
+        Instr::PushText(2),
+        Instr::IfAcmpeq(5),
+        false,
+    ),
+    (
+        Instr::PushText(1),
+        Instr::PushText(2),
+        Instr::IfAcmpne(5),
+        true,
+    ),
+    (Instr::Out, Instr::Out, Instr::IfAcmpeq(5), true),
+    (Instr::Nop, Instr::PushNull, Instr::Ifnull(5), true),
+    (Instr::Nop, Instr::Out, Instr::Ifnull(5), false),
+    (Instr::Nop, Instr::PushNull, Instr::Ifnonnull(5), false),
+    (Instr::Nop, Instr::PushText(0), Instr::Ifnonnull(5), true),
+];
+
+const FAULTS: [([Instr; 4], FaultKind, u32); 25] = [
+    (
+        [Instr::Push(5), Instr::Push(0), Instr::Idiv, Instr::Nop],
         FaultKind::Arithmetic,
         2,
     ),
     (
-        Instr::Push(5),
-        Instr::Push(0),
-        Instr::Irem,
+        [Instr::Push(5), Instr::Push(0), Instr::Irem, Instr::Nop],
         FaultKind::Arithmetic,
         2,
     ),
     (
-        Instr::PushNull,
-        Instr::Push(-1),
-        Instr::Iaload,
-        FaultKind::NullPointer,
-        2,
-    ),
-    (
-        Instr::PushNull,
-        Instr::Nop,
-        Instr::ArrayLength,
-        FaultKind::NullPointer,
-        2,
-    ),
-    (
-        Instr::PushNull,
-        Instr::MonitorEnter,
-        Instr::Nop,
-        FaultKind::NullPointer,
-        1,
-    ),
-    (
-        Instr::PushNull,
-        Instr::Athrow,
-        Instr::Nop,
-        FaultKind::NullPointer,
-        1,
-    ),
-    (
-        Instr::PushNull,
-        Instr::RunOf(1),
-        Instr::Nop,
-        FaultKind::NullPointer,
-        1,
-    ),
-    (
-        Instr::PushNull,
-        Instr::PushText(0),
-        Instr::PrintText { newline: true },
-        FaultKind::NullPointer,
-        2,
-    ),
-    (
-        Instr::Nop,
-        Instr::Push(-1),
-        Instr::NewArray,
+        [Instr::Push(-1), Instr::NewArray, Instr::Nop, Instr::Nop],
         FaultKind::NegativeSize,
+        1,
+    ),
+    (
+        [Instr::PushNull, Instr::ArrayLength, Instr::Nop, Instr::Nop],
+        FaultKind::NullPointer,
+        1,
+    ),
+    (
+        [Instr::PushNull, Instr::Push(-1), Instr::Iaload, Instr::Nop],
+        FaultKind::NullPointer,
         2,
     ),
+    (
+        [
+            Instr::PushNull,
+            Instr::Push(-1),
+            Instr::Push(0),
+            Instr::Iastore,
+        ],
+        FaultKind::NullPointer,
+        3,
+    ),
+    (
+        [
+            Instr::PushNull,
+            Instr::GetField {
+                class: 32,
+                place: 0,
+            },
+            Instr::Nop,
+            Instr::Nop,
+        ],
+        FaultKind::NullPointer,
+        1,
+    ),
+    (
+        [
+            Instr::PushNull,
+            Instr::Push(5),
+            Instr::PutField {
+                class: 32,
+                place: 0,
+            },
+            Instr::Nop,
+        ],
+        FaultKind::NullPointer,
+        2,
+    ),
+    (
+        [Instr::PushNull, Instr::MonitorEnter, Instr::Nop, Instr::Nop],
+        FaultKind::NullPointer,
+        1,
+    ),
+    (
+        [Instr::PushNull, Instr::MonitorExit, Instr::Nop, Instr::Nop],
+        FaultKind::NullPointer,
+        1,
+    ),
+    (
+        [Instr::PushNull, Instr::Wait, Instr::Nop, Instr::Nop],
+        FaultKind::NullPointer,
+        1,
+    ),
+    (
+        [Instr::PushNull, Instr::Notify, Instr::Nop, Instr::Nop],
+        FaultKind::NullPointer,
+        1,
+    ),
+    (
+        [Instr::PushNull, Instr::NotifyAll, Instr::Nop, Instr::Nop],
+        FaultKind::NullPointer,
+        1,
+    ),
+    (
+        [Instr::PushNull, Instr::Start, Instr::Nop, Instr::Nop],
+        FaultKind::NullPointer,
+        1,
+    ),
+    (
+        [Instr::PushNull, Instr::Join, Instr::Nop, Instr::Nop],
+        FaultKind::NullPointer,
+        1,
+    ),
+    (
+        [Instr::PushNull, Instr::Athrow, Instr::Nop, Instr::Nop],
+        FaultKind::NullPointer,
+        1,
+    ),
+    (
+        [
+            Instr::PushNull,
+            Instr::InvokeVirtual(1),
+            Instr::Nop,
+            Instr::Nop,
+        ],
+        FaultKind::NullPointer,
+        1,
+    ),
+    (
+        [
+            Instr::PushNull,
+            Instr::InvokeSpecial(1),
+            Instr::Nop,
+            Instr::Nop,
+        ],
+        FaultKind::NullPointer,
+        1,
+    ),
+    (
+        [Instr::PushNull, Instr::RunOf(1), Instr::Nop, Instr::Nop],
+        FaultKind::NullPointer,
+        1,
+    ),
+    (
+        [
+            Instr::PushNull,
+            Instr::Init {
+                class: 1,
+                text: false,
+            },
+            Instr::Nop,
+            Instr::Nop,
+        ],
+        FaultKind::NullPointer,
+        1,
+    ),
+    (
+        [Instr::PushNull, Instr::Println, Instr::Nop, Instr::Nop],
+        FaultKind::NullPointer,
+        1,
+    ),
+    (
+        [
+            Instr::PushNull,
+            Instr::PushText(0),
+            Instr::Init {
+                class: 1,
+                text: true,
+            },
+            Instr::Nop,
+        ],
+        FaultKind::NullPointer,
+        2,
+    ),
+    (
+        [
+            Instr::PushNull,
+            Instr::PushNull,
+            Instr::InitRunnable,
+            Instr::Nop,
+        ],
+        FaultKind::NullPointer,
+        2,
+    ),
+    (
+        [
+            Instr::PushNull,
+            Instr::Push(1),
+            Instr::PrintInt { newline: true },
+            Instr::Nop,
+        ],
+        FaultKind::NullPointer,
+        2,
+    ),
+    (
+        [
+            Instr::PushNull,
+            Instr::PushText(0),
+            Instr::PrintText { newline: true },
+            Instr::Nop,
+        ],
+        FaultKind::NullPointer,
+        2,
+    ),
+];
+
+// Without operands. Local 1 holds null, and the last local is 255.
+const LACKING: [Instr; 66] = [
+    Instr::Pop,
+    Instr::Pop2,
+    Instr::Dup,
+    Instr::DupX1,
+    Instr::DupX2,
+    Instr::Dup2,
+    Instr::Swap,
+    Instr::Iadd,
+    Instr::Isub,
+    Instr::Imul,
+    Instr::Ineg,
+    Instr::Idiv,
+    Instr::Irem,
+    Instr::Ishl,
+    Instr::Ishr,
+    Instr::Iushr,
+    Instr::Iand,
+    Instr::Ior,
+    Instr::Ixor,
+    Instr::Ifeq(0),
+    Instr::Ifne(0),
+    Instr::Iflt(0),
+    Instr::Ifge(0),
+    Instr::Ifgt(0),
+    Instr::Ifle(0),
+    Instr::IfIcmpeq(0),
+    Instr::IfIcmpne(0),
+    Instr::IfIcmplt(0),
+    Instr::IfIcmpge(0),
+    Instr::IfIcmpgt(0),
+    Instr::IfIcmple(0),
+    Instr::IfAcmpeq(0),
+    Instr::IfAcmpne(0),
+    Instr::Ifnull(0),
+    Instr::Ifnonnull(0),
+    Instr::ArrayLength,
+    Instr::PutStatic(0),
+    Instr::Iaload,
+    Instr::Iastore,
+    Instr::NewArray,
+    Instr::MonitorEnter,
+    Instr::MonitorExit,
+    Instr::Athrow,
+    Instr::InvokeVirtual(1),
+    Instr::InvokeSpecial(1),
+    Instr::RunOf(1),
+    Instr::Wait,
+    Instr::Notify,
+    Instr::NotifyAll,
+    Instr::Start,
+    Instr::Join,
+    Instr::InitRunnable,
+    Instr::Println,
+    Instr::Ireturn,
+    Instr::Areturn,
+    Instr::Istore(1),
+    Instr::Astore(1),
+    Instr::Iload(1),
+    Instr::Aload(256),
+    Instr::Iinc { local: 1, by: 1 },
+    Instr::GetField {
+        class: 32,
+        place: 0,
+    },
+    Instr::PutField {
+        class: 32,
+        place: 0,
+    },
+    Instr::Init {
+        class: 1,
+        text: false,
+    },
+    Instr::Init {
+        class: 1,
+        text: true,
+    },
+    Instr::PrintInt { newline: true },
+    Instr::PrintText { newline: true },
 ];
 
 #[test]
@@ -360,8 +623,14 @@ fn single_instructions(rt: HostRuntime) -> Result<(), Fail> {
     for case in &JUMPS {
         assert!(rt; jumps(alloc, case)?);
     }
+    for case in &REFERENCES {
+        assert!(rt; compares(alloc, case)?);
+    }
     for case in &FAULTS {
         assert!(rt; fails(alloc, case)?);
+    }
+    for instr in &LACKING {
+        assert!(rt; asks(alloc, &[*instr], None)?);
     }
     Ok(())
 }
@@ -384,39 +653,11 @@ const LOCALS: [Instr; 13] = [
 
 const LOCAL_VALUES: [Value; 4] = [Value::Int(4), Value::Text(3), Value::Null, Value::Stream];
 
-const SAME_NULLS: [Instr; 5] = [
-    Instr::PushNull,
-    Instr::PushNull,
-    Instr::IfAcmpeq(4),
-    Instr::Yield,
-    Instr::GetStatic(7),
-];
-
-const NULL_AND_TEXT: [Instr; 5] = [
-    Instr::PushNull,
-    Instr::PushText(1),
-    Instr::IfAcmpne(4),
-    Instr::Yield,
-    Instr::GetStatic(7),
-];
-
-const STREAM: [Instr; 4] = [
-    Instr::Out,
-    Instr::Ifnull(3),
-    Instr::Yield,
-    Instr::GetStatic(7),
-];
-
 #[test]
-fn locals_and_references(rt: HostRuntime) -> Result<(), Fail> {
+fn locals(rt: HostRuntime) -> Result<(), Fail> {
     let alloc = rt.alloc();
     let values = put(alloc, &LOCALS)?;
     assert!(rt; values.as_slice() == LOCAL_VALUES.as_slice());
-    let read = Some(Op::GetStatic { slot: 7 });
-    assert!(rt; asks(alloc, &SAME_NULLS, read)?);
-    assert!(rt; asks(alloc, &NULL_AND_TEXT, read)?);
-    assert!(rt; asks(alloc, &STREAM, Some(Op::Yield))?);
-    assert!(rt; asks(alloc, &[Instr::Pop], None)?);
     Ok(())
 }
 
@@ -467,6 +708,18 @@ const OVERFLOW: Op = Op::Fault {
     at: 0,
 };
 
+const GIVE_BACK: [Instr; 4] = [
+    Instr::PushText(3),
+    Instr::InvokeStatic(1),
+    Instr::PutStatic(0),
+    Instr::Return,
+];
+
+const PUT_TEXT: Op = Op::PutStatic {
+    slot: 0,
+    value: Value::Text(3),
+};
+
 #[test]
 fn calls(rt: HostRuntime) -> Result<(), Fail> {
     let alloc = rt.alloc();
@@ -477,6 +730,10 @@ fn calls(rt: HostRuntime) -> Result<(), Fail> {
     let callee = method(alloc, &[], false, &code)?;
     let plain = program(alloc, false, &[Instr::InvokeStatic(1)], callee)?;
     assert!(rt; plays(alloc, &plain, PUT_NULL, &[])?);
+    let code = [Instr::Aload(0), Instr::Areturn];
+    let callee = method(alloc, &[Kind::Null], false, &code)?;
+    let plain = program(alloc, false, &GIVE_BACK, callee)?;
+    assert!(rt; plays(alloc, &plain, PUT_TEXT, &END)?);
     Ok(())
 }
 
@@ -635,11 +892,336 @@ const WAIT_REPLIES: [(Reply, Option<Op>); 4] = [
     ),
 ];
 
+const OBJECT: ObjRef = ObjRef { id: 7, class: 32 };
+
+const MADE: Reply = Reply::Made(Value::Obj { id: 7, class: 32 });
+
+const OWN_MONITOR: Lock = Lock::Object(7);
+
+const PUT_OBJECT: Op = Op::PutStatic {
+    slot: 0,
+    value: Value::Obj { id: 7, class: 32 },
+};
+
+const UNOWNED: Op = Op::Fault {
+    kind: FaultKind::MonitorState,
+    method: 0,
+    at: 2,
+};
+
+const STARTED_TWICE: Op = Op::Fault {
+    kind: FaultKind::ThreadState,
+    method: 0,
+    at: 3,
+};
+
+const THROWN_OBJECT: Op = Op::Fault {
+    kind: FaultKind::Thrown(32),
+    method: 0,
+    at: 4,
+};
+
+// Behind `New(32)` and `Dup`, four instructions each, and what the thread asks for and is answered, once the object is there.
+const OBJECTS: [([Instr; 4], [(Reply, Option<Op>); 3]); 11] = [
+    (
+        [
+            Instr::Push(5),
+            Instr::PutField {
+                class: 32,
+                place: 1,
+            },
+            Instr::GetField {
+                class: 32,
+                place: 2,
+            },
+            Instr::PutStatic(0),
+        ],
+        [
+            (
+                MADE,
+                Some(Op::PutField {
+                    obj: OBJECT,
+                    place: 1,
+                    value: Value::Int(5),
+                }),
+            ),
+            (
+                Reply::Unit,
+                Some(Op::GetField {
+                    obj: OBJECT,
+                    place: 2,
+                }),
+            ),
+            (Reply::Got(Value::Int(2)), Some(PUT_TWO)),
+        ],
+    ),
+    (
+        [
+            Instr::MonitorEnter,
+            Instr::MonitorExit,
+            Instr::Return,
+            Instr::Nop,
+        ],
+        [
+            (MADE, Some(Op::Enter { lock: OWN_MONITOR })),
+            (Reply::Unit, Some(Op::Exit { lock: OWN_MONITOR })),
+            (Reply::Unit, Some(Op::ThreadEnd)),
+        ],
+    ),
+    (
+        [Instr::MonitorExit, Instr::Pop, Instr::Return, Instr::Nop],
+        [
+            (MADE, Some(Op::Exit { lock: OWN_MONITOR })),
+            (Reply::Raise(FaultKind::MonitorState), Some(UNOWNED)),
+            (Reply::Unit, Some(UNOWNED)),
+        ],
+    ),
+    (
+        [Instr::Notify, Instr::NotifyAll, Instr::Return, Instr::Nop],
+        [
+            (MADE, Some(Op::Notify { lock: OWN_MONITOR })),
+            (Reply::Unit, Some(Op::NotifyAll { lock: OWN_MONITOR })),
+            (Reply::Unit, Some(Op::ThreadEnd)),
+        ],
+    ),
+    (
+        [Instr::Start, Instr::Join, Instr::Return, Instr::Nop],
+        [
+            (MADE, Some(Op::Start { target: OBJECT })),
+            (Reply::Began(1), Some(Op::Join { obj: 7 })),
+            (Reply::Unit, Some(Op::ThreadEnd)),
+        ],
+    ),
+    (
+        [Instr::Start, Instr::Start, Instr::Return, Instr::Nop],
+        [
+            (MADE, Some(Op::Start { target: OBJECT })),
+            (Reply::Began(1), Some(Op::Start { target: OBJECT })),
+            (Reply::Raise(FaultKind::ThreadState), Some(STARTED_TWICE)),
+        ],
+    ),
+    (
+        [
+            Instr::PushText(0),
+            Instr::Init {
+                class: 1,
+                text: true,
+            },
+            Instr::PutStatic(0),
+            Instr::Return,
+        ],
+        [
+            (MADE, Some(PUT_OBJECT)),
+            (Reply::Unit, Some(Op::ThreadEnd)),
+            (Reply::Unit, None),
+        ],
+    ),
+    (
+        [
+            Instr::Init {
+                class: 0,
+                text: false,
+            },
+            Instr::PutStatic(0),
+            Instr::Return,
+            Instr::Nop,
+        ],
+        [
+            (MADE, Some(PUT_OBJECT)),
+            (Reply::Unit, Some(Op::ThreadEnd)),
+            (Reply::Unit, None),
+        ],
+    ),
+    (
+        [
+            Instr::PushNull,
+            Instr::InitRunnable,
+            Instr::PutStatic(0),
+            Instr::Return,
+        ],
+        [
+            (
+                MADE,
+                Some(Op::PutField {
+                    obj: OBJECT,
+                    place: 0,
+                    value: Value::Null,
+                }),
+            ),
+            (Reply::Unit, Some(PUT_OBJECT)),
+            (Reply::Unit, Some(Op::ThreadEnd)),
+        ],
+    ),
+    (
+        [
+            Instr::IfAcmpeq(4),
+            Instr::Yield,
+            Instr::GetStatic(0),
+            Instr::Return,
+        ],
+        [
+            (MADE, Some(GET)),
+            (Reply::Got(Value::Null), Some(Op::ThreadEnd)),
+            (Reply::Unit, None),
+        ],
+    ),
+    (
+        [
+            Instr::Ifnonnull(4),
+            Instr::Yield,
+            Instr::Athrow,
+            Instr::Return,
+        ],
+        [
+            (MADE, Some(THROWN_OBJECT)),
+            (Reply::Unit, Some(THROWN_OBJECT)),
+            (Reply::Unit, Some(THROWN_OBJECT)),
+        ],
+    ),
+];
+
+/// Whether a thread goes on as wanted with a new object twice on its stack.
+fn works(alloc: Global, case: &([Instr; 4], [(Reply, Option<Op>); 3])) -> Result<bool, NoMemory> {
+    let ([a, b, c, d], script) = *case;
+    let code = [Instr::New(32), Instr::Dup, a, b, c, d];
+    let plain = main_alone(alloc, &code)?;
+    plays(alloc, &plain, Op::New { class: 32 }, &script)
+}
+
+#[test]
+fn objects(rt: HostRuntime) -> Result<(), Fail> {
+    let alloc = rt.alloc();
+    for case in &OBJECTS {
+        assert!(rt; works(alloc, case)?);
+    }
+    Ok(())
+}
+
+// A call on an object, with 2 as the argument.
+const CALL_VIRTUAL: [Instr; 5] = [
+    Instr::New(32),
+    Instr::Push(2),
+    Instr::InvokeVirtual(1),
+    Instr::PutStatic(0),
+    Instr::Return,
+];
+
+const CALL_SPECIAL: [Instr; 5] = [
+    Instr::New(32),
+    Instr::Push(2),
+    Instr::InvokeSpecial(1),
+    Instr::PutStatic(0),
+    Instr::Return,
+];
+
+const PUT_AND_GIVE: [Instr; 4] = [
+    Instr::Aload(0),
+    Instr::PutStatic(0),
+    Instr::Iload(1),
+    Instr::Ireturn,
+];
+
+const CALLED: [(Reply, Option<Op>); 5] = [
+    (MADE, Some(Op::Enter { lock: OWN_MONITOR })),
+    (Reply::Unit, Some(PUT_OBJECT)),
+    (Reply::Unit, Some(Op::Exit { lock: OWN_MONITOR })),
+    (Reply::Unit, Some(PUT_TWO)),
+    (Reply::Unit, Some(Op::ThreadEnd)),
+];
+
+#[test]
+fn calls_on_objects(rt: HostRuntime) -> Result<(), Fail> {
+    let alloc = rt.alloc();
+    let mut callee = method(alloc, &[Kind::Int], true, &PUT_AND_GIVE)?;
+    callee.is_static = false;
+    let plain = program(alloc, false, &CALL_VIRTUAL, callee)?;
+    assert!(rt; plays(alloc, &plain, Op::New { class: 32 }, &CALLED)?);
+    let mut callee = method(alloc, &[Kind::Int], true, &PUT_AND_GIVE)?;
+    callee.is_static = false;
+    let plain = program(alloc, false, &CALL_SPECIAL, callee)?;
+    assert!(rt; plays(alloc, &plain, Op::New { class: 32 }, &CALLED)?);
+    Ok(())
+}
+
+// An array of 3 items, of which the last is written, and then the one behind it.
+const WRITES: [Instr; 9] = [
+    Instr::Push(3),
+    Instr::NewArray,
+    Instr::Dup,
+    Instr::Push(2),
+    Instr::Push(LEAST),
+    Instr::Iastore,
+    Instr::Push(3),
+    Instr::Push(9),
+    Instr::Iastore,
+];
+
+const WRITE_REPLIES: [(Reply, Option<Op>); 2] = [
+    (
+        Reply::Made(Value::Arr { id: 4, len: 3 }),
+        Some(Op::ArrayStore {
+            arr: 4,
+            index: 2,
+            value: LEAST,
+        }),
+    ),
+    (Reply::Unit, Some(BEHIND)),
+];
+
+const PRINTS: [Instr; 12] = [
+    Instr::Out,
+    Instr::Println,
+    Instr::Out,
+    Instr::Push(LEAST),
+    Instr::PrintInt { newline: false },
+    Instr::Out,
+    Instr::PushNull,
+    Instr::PrintText { newline: true },
+    Instr::Out,
+    Instr::PushText(3),
+    Instr::PrintText { newline: false },
+    Instr::Return,
+];
+
+const PRINT_NOTHING: Op = Op::Print {
+    piece: Piece::Nothing,
+    newline: true,
+};
+
+const PRINT_REPLIES: [(Reply, Option<Op>); 4] = [
+    (
+        Reply::Unit,
+        Some(Op::Print {
+            piece: Piece::Int(LEAST),
+            newline: false,
+        }),
+    ),
+    (
+        Reply::Unit,
+        Some(Op::Print {
+            piece: Piece::Null,
+            newline: true,
+        }),
+    ),
+    (
+        Reply::Unit,
+        Some(Op::Print {
+            piece: Piece::Text(3),
+            newline: false,
+        }),
+    ),
+    (Reply::Unit, Some(Op::ThreadEnd)),
+];
+
 #[test]
 fn replies(rt: HostRuntime) -> Result<(), Fail> {
     let alloc = rt.alloc();
     let plain = main_alone(alloc, &ARRAY)?;
     assert!(rt; plays(alloc, &plain, Op::NewArray { len: 3 }, &ARRAY_REPLIES)?);
+    let plain = main_alone(alloc, &WRITES)?;
+    assert!(rt; plays(alloc, &plain, Op::NewArray { len: 3 }, &WRITE_REPLIES)?);
+    let plain = main_alone(alloc, &PRINTS)?;
+    assert!(rt; plays(alloc, &plain, PRINT_NOTHING, &PRINT_REPLIES)?);
     let plain = main_alone(alloc, &WAIT)?;
     assert!(rt; plays(alloc, &plain, Op::New { class: 32 }, &WAIT_REPLIES)?);
     Ok(())

@@ -2,7 +2,7 @@
 ghost use Rattle.std.specs.Prelude.{◌≤◌, length, IfOk};
 ghost use Rattle.vm_model.specs.Plain.{IsLinked};
 
-use crate::{ShapeFault, ShapeKind, verify};
+use crate::{Room, ShapeFault, ShapeKind, verify};
 use std::alloc::Global;
 use std::test::Fail;
 use vm_model::{Class, Instr, Kind, Method, Name, NoMemory, Program};
@@ -141,5 +141,42 @@ fn faults(rt: HostRuntime) -> Result<(), Fail> {
         Instr::Return,
     ];
     assert_eq!(rt; answer(alloc, &code)?, fault(ShapeKind::Kind, 5));
+    Ok(())
+}
+
+/// What a frame of the method that isn't main needs at most, if the program is verified.
+fn room_of(alloc: Global, other: Method) -> Result<Option<Room>, NoMemory>
+    requires { length other.code ≤ 64 }
+{
+    let Ok(shaped) = verify(alloc, program(alloc, other)?) else {
+        return Ok(None);
+    };
+    match shaped.program().method(1) {
+        Some(_) => Ok(Some(shaped.room(1))),
+        None => Ok(None),
+    }
+}
+
+#[test]
+fn rooms(rt: HostRuntime) -> Result<(), Fail> {
+    let alloc = rt.alloc();
+    let bounded = method(alloc, &[Kind::Int], &[Instr::Return])?;
+    assert_eq!(rt;
+        room_of(alloc, bounded)?,
+        Some(Room {
+            stack: 4,
+            locals: 3,
+        })
+    );
+    let mut unbounded = method(alloc, &[Kind::Int], &[Instr::Return])?;
+    unbounded.max_stack = None;
+    unbounded.max_locals = None;
+    assert_eq!(rt;
+        room_of(alloc, unbounded)?,
+        Some(Room {
+            stack: 1024,
+            locals: 256,
+        })
+    );
     Ok(())
 }
