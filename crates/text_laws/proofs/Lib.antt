@@ -28,3 +28,5 @@ pub mod Assembled
 pub mod Placed
 pub mod Whole
 pub mod Apart
+pub mod NamedLine
+pub mod LineOrder

@@ -2,3 +2,4 @@ pub mod Sizes
 pub mod Spelled
 pub mod OfText
 pub mod Alike
+pub mod LineFaults

@@ -1,14 +1,18 @@
-ghost use Rattle.std.specs.Prelude.{◌≡◌, ◌↔◌, ◌++◌, ℕ, ℤ, false, true, List, length, drop, Some, Ok};
+ghost use Rattle.std.specs.Prelude.{◌≡◌, ◌≤◌, ◌↔◌, ◌++◌, ℕ, ℤ, false, true, List, [], Contains, length, drop, Some, Ok, Err};
 ghost use Rattle.std.specs.Fmt.{signed_decimal};
 ghost use Rattle.std.specs.List.{AllByRecursion};
 ghost use Rattle.jasmin_text.specs.declared.token.Token.{Token};
 ghost use Rattle.jasmin_text.specs.Numbers.{number_of};
 ghost use Rattle.jasmin_text.specs.Pieces.{string_behind};
 ghost use Rattle.jasmin_text.specs.Texts.{tokens_of};
+ghost use Rattle.jasmin_reader.specs.declared.fault.Refusal.{Refusal};
 ghost use Rattle.jasmin_reader.specs.declared.lexeme.Lexeme.{Lexeme};
+ghost use Rattle.jasmin_reader.specs.Assembly.{classes_of};
 ghost use Rattle.jasmin_reader.specs.Canonical.{quoted, canonical};
+ghost use Rattle.jasmin_reader.specs.Lexemes.{lines_behind};
 ghost use Rattle.jasmin_reader.specs.Plain.{PlainClassText};
 ghost use Rattle.jasmin_reader.specs.Reading.{reading};
+ghost use Rattle.text_laws.specs.LineFaults.{IsFirst, forms_alone, line_faults};
 ghost use Rattle.text_laws.specs.Sizes.{IsSmall, is_quotable};
 ghost use Rattle.text_laws.specs.Spelled.{spelled, IsSpellableLine};
 ghost use Rattle.text_laws.specs.Alike.{HasLines, AreAlike, ReadsAlike};
@@ -36,4 +40,12 @@ pub fn canonical_text_reads_the_same()
 /// Two texts that were read have the same canonical text exactly if their classes are the same in all but line numbers.
 pub fn canonical_text_tells_classes_apart()
     ensures { (text : List ℕ) (tokens : List Token) (classes : List PlainClassText) (second : List ℕ) (second_tokens : List Token) (others : List PlainClassText) → tokens_of text ≡ Ok tokens → reading text tokens ≡ Ok classes → tokens_of second ≡ Ok second_tokens → reading second second_tokens ≡ Ok others → (canonical classes ≡ canonical others) ↔ AreAlike classes others }
+{}
+
+/// The fault that reading names is the first of the text's, and no line before that one has any. A text is read exactly where
+/// no line has a fault, and then its classes are those of its lines' forms, each read by itself.
+pub fn named_line_is_first()
+    ensures refused { (text : List ℕ) (tokens : List Token) (f : Refusal) → (reading text tokens ≡ Err f) ↔ IsFirst (line_faults text tokens) f }
+    ensures before { (text : List ℕ) (tokens : List Token) (f : Refusal) (g : Refusal) → tokens_of text ≡ Ok tokens → reading text tokens ≡ Err f → Contains (line_faults text tokens) g → f.line ≤ g.line }
+    ensures read { (text : List ℕ) (tokens : List Token) (classes : List PlainClassText) → (reading text tokens ≡ Ok classes) ↔ ((line_faults text tokens ≡ []) × (classes ≡ classes_of (forms_alone (lines_behind text [] tokens)))) }
 {}

@@ -5,5 +5,5 @@ mod laws;
 
 pub use laws::{
     canonical_text_reads_the_same, canonical_text_tells_classes_apart, lines_read_back,
-    numbers_read_back, strings_read_back,
+    named_line_is_first, numbers_read_back, strings_read_back,
 };
