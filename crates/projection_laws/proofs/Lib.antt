@@ -1,0 +1,5 @@
+pub mod Places
+pub mod Rows
+pub mod Steps
+pub mod Projected
+pub mod Alone
