@@ -23,4 +23,6 @@ mod step;
 pub use local::Local;
 
 #[cfg(test)]
+mod instructions_tested;
+#[cfg(test)]
 mod tests;
