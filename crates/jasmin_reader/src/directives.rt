@@ -218,20 +218,20 @@ fn catch_of(
     class: &Lexeme,
     from: &Lexeme,
     to: &Lexeme,
-    using: &Lexeme,
+    handler: &Lexeme,
 ) -> Result<Form, FormError>
-    ensures { Gives (λ x. x) result (spec.catch_of line class.now from.now to.now using.now) }
+    ensures { Gives (λ x. x) result (spec.catch_of line class.now from.now to.now handler.now) }
 {
     let class = word_of(class)?;
     let from = word_of(from)?;
     let to = word_of(to)?;
-    let using = word_of(using)?;
+    let handler = word_of(handler)?;
     Ok(Form::Catch(CatchText {
         line,
         class: named(alloc, is_class_name(class), class)?,
         from: named(alloc, is_name(from), from)?,
         to: named(alloc, is_name(to), to)?,
-        using: named(alloc, is_name(using), using)?,
+        using: named(alloc, is_name(handler), handler)?,
     }))
 }
 
