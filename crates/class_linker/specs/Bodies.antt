@@ -1,5 +1,5 @@
 -- Text constants, labels, and what is wrong with bodies.
-use Rattle.std.specs.Prelude.{ℕ, ◌+◌, Bool, if◌then◌else◌, nat_le, List, [], ◌∷◌, ◌++◌, is_some, Option, Some, None, Result, Ok, Err}
+use Rattle.std.specs.Prelude.{ℕ, if◌then◌else◌, nat_le, List, [], ◌∷◌, ◌++◌, is_some, Option, Some, None, Result, Ok, Err}
 use Rattle.jasmin_reader.specs.declared.class_text.Operand.{Operand}
 use Rattle.jasmin_reader.specs.declared.class_text.Operand.TheVariants as operand
 use Rattle.jasmin_reader.specs.declared.class_text.CatchText.{CatchText}

@@ -1,8 +1,8 @@
 -- The built-in classes and their members.
-use Rattle.std.specs.Prelude.{ℕ, ◌+◌, Bool, true, false, not, ◌&&◌, ◌||◌, if◌then◌else◌, ◌==◌, nat_le, nat_lt, List, [], ◌∷◌, codes, bytes_eq, Option, Some, None}
+use Rattle.std.specs.Prelude.{ℕ, Bool, true, false, not, ◌&&◌, ◌||◌, if◌then◌else◌, ◌==◌, nat_le, List, [], ◌∷◌, codes, bytes_eq, Option, Some, None}
 use Rattle.vm_model.specs.declared.instr.Instr.{Instr}
 use Rattle.vm_model.specs.declared.instr.Instr.TheVariants as instr
-use Rattle.class_linker.specs.Index.{Rows, value_of}
+use Rattle.class_linker.specs.Index.{Rows}
 
 -- the built-in classes and their numbers
 unfoldable pub built_in_classes : Rows

@@ -1,5 +1,5 @@
 -- Members of classes, as instructions name them.
-use Rattle.std.specs.Prelude.{ℕ, ◌+◌, Bool, true, false, not, ◌&&◌, ◌||◌, if◌then◌else◌, ◌==◌, List, [], ◌∷◌, ◌++◌, codes, bytes_eq, is_some, Option, Some, None, Result, Ok, Err}
+use Rattle.std.specs.Prelude.{ℕ, Bool, not, ◌&&◌, ◌||◌, if◌then◌else◌, ◌==◌, List, ◌++◌, codes, bytes_eq, is_some, Option, Some, None, Result, Ok, Err}
 use Rattle.vm_model.specs.declared.instr.Instr.{Instr}
 use Rattle.vm_model.specs.declared.instr.Instr.TheVariants as instr
 use Rattle.class_linker.specs.declared.calls.Target.{Target}
@@ -98,9 +98,10 @@ call names thread_run mnemonic word = do
 abbrev pub is_out : List ℕ → List ℕ → Bool
 is_out word desc = bytes_eq word (codes "java/lang/System/out") && bytes_eq desc (codes "Ljava/io/PrintStream;")
 
-abbrev pub or_out : Bool → Option Instr → Option Instr
-or_out is_out (Some i) = Some i
-or_out is_out None = if is_out then Some instr.Out else None
+-- `getstatic`: a field of the text comes before the built-in one, also where it isn't static
+abbrev pub read_static : Bool → Bool → Option ℕ → Option Instr
+read_static is_out is_place (Some n) = Some (instr.GetStatic n)
+read_static is_out is_place None = if is_out && not is_place then Some instr.Out else None
 
 abbrev pub to_slot : (ℕ → Instr) → Option ℕ → Option Instr
 to_slot make None = None
@@ -108,14 +109,18 @@ to_slot make (Some n) = Some (make n)
 
 abbrev pub field_by : Names → List ℕ → List ℕ → List ℕ → ℕ → Option Instr
 field_by names mnemonic word desc class =
-    if bytes_eq mnemonic (codes "getstatic") then or_out (is_out word desc) (to_slot instr.GetStatic (value_of (field_key word desc) names.statics)) else
+    if bytes_eq mnemonic (codes "getstatic") then read_static (is_out word desc) (is_some (value_of (field_key word desc) names.places)) (value_of (field_key word desc) names.statics) else
     if bytes_eq mnemonic (codes "putstatic") then to_slot instr.PutStatic (value_of (field_key word desc) names.statics) else
     if bytes_eq mnemonic (codes "getfield") then to_slot (instr.GetField class) (value_of (field_key word desc) names.places) else
     to_slot (instr.PutField class) (value_of (field_key word desc) names.places)
 
--- the class of a field: System is one for its field out alone
+-- the class of a field; where the text has no class System, that is one for its field out alone, and no number is asked for
+abbrev pub class_or : Bool → Option ℕ → Result ℕ LinkKind
+class_or is_out (Some n) = Ok n
+class_or is_out None = if is_out then Ok 0 else Err UnknownClass
+
 abbrev pub field_class : Names → List ℕ → List ℕ → Result ℕ LinkKind
-field_class names word desc = if is_out word desc then Ok 0 else or_fault UnknownClass (class_of names.classes (member word).0)
+field_class names word desc = class_or (is_out word desc) (class_of names.classes (member word).0)
 
 unfoldable pub field : Names → List ℕ → List ℕ → List ℕ → Result Instr LinkKind
 field names mnemonic word desc = do

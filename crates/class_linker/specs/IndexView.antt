@@ -1,5 +1,5 @@
 -- What an index holds.
-use Rattle.std.specs.Prelude.{ℕ, List, map}
+use Rattle.std.specs.Prelude.{ℕ, map}
 use Rattle.indexmap.specs.IndexMap.{IndexMap}
 use Rattle.std.specs.Prelude.{Vec}
 use Rattle.class_linker.specs.Index.{Rows}

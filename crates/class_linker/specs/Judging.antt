@@ -1,5 +1,6 @@
 -- What is wrong with declarations: of each line the least fault, and of all lines the first.
-use Rattle.std.specs.Prelude.{ℕ, ◌+◌, Bool, true, false, not, ◌&&◌, ◌||◌, if◌then◌else◌, ◌==◌, nat_le, nat_lt, List, [], ◌∷◌, ◌++◌, length, codes, bytes_eq, is_some, ℤ, Option, Some, None}
+use Rattle.std.specs.Prelude.{ℕ, ◌+◌, Bool, true, false, not, ◌&&◌, ◌||◌, if◌then◌else◌, ◌==◌, nat_le, nat_lt, List, [], ◌∷◌, ◌++◌, length, codes, bytes_eq, is_some, Option, Some, None}
+use Rattle.std.specs.List.{list_any}
 use Rattle.vm_model.specs.declared.value.Kind.TheVariants as kind
 use Rattle.jasmin_reader.specs.declared.class_text.NameAt.{NameAt}
 use Rattle.jasmin_reader.specs.Plain.{PlainClassText, PlainFieldText, PlainMethodText}
@@ -12,9 +13,9 @@ use Rattle.class_linker.specs.declared.names.Counts.{Counts}
 use Rattle.class_linker.specs.declared.names.Names.{Names}
 use Rattle.class_linker.specs.Faults.{noted, only_if}
 use Rattle.class_linker.specs.Index.{value_of}
-use Rattle.class_linker.specs.Words.{has_foreign_flag, has, field_word, method_key}
+use Rattle.class_linker.specs.Words.{has_foreign_flag, field_word, method_key}
 use Rattle.class_linker.specs.BuiltIn.{built_in_classes, is_reserved}
-use Rattle.class_linker.specs.Descriptors.{PlainSignature, type_of, method_signature, in_signature, in_given, is_unknown, is_bad, is_outside}
+use Rattle.class_linker.specs.Descriptors.{PlainSignature, type_of, method_signature, in_signature, is_unknown, is_bad, is_outside}
 use Rattle.class_linker.specs.Names.{is_named, is_thread, is_static, class_begun, field_counted, method_counted, counted_if}
 
 abbrev pub is_this : ℕ → Option ℕ → Bool
@@ -40,12 +41,14 @@ abbrev pub super_fault : PlainClassText → Option LinkKind
 super_fault c = only_if OutOfProfile (is_named c && not (is_super c.super_name)) None
 
 -- whether a class has a `run()V` of its own that isn't static
-abbrev pub has_run : Names → List ℕ → Bool
-has_run names class = is_some (value_of (method_key class (codes "run") (codes "()V")) names.instance_methods)
+abbrev pub is_own_run : PlainMethodText → Bool
+is_own_run m = bytes_eq m.name (codes "run") && bytes_eq m.desc (codes "()V") && not (is_static m.flags)
 
-abbrev pub implements_fault : Names → List ℕ → NameAt → Option LinkKind
-implements_fault names class name =
-    only_if UnknownMethod (not (has_run names class)) (only_if OutOfProfile (not (bytes_eq name.name (codes "java/lang/Runnable"))) None)
+abbrev pub has_run : PlainClassText → Bool
+has_run c = list_any is_own_run c.methods
+
+abbrev pub implements_fault : Bool → NameAt → Option LinkKind
+implements_fault has_run name = only_if UnknownMethod (not has_run) (only_if OutOfProfile (not (bytes_eq name.name (codes "java/lang/Runnable"))) None)
 
 -- ---- `.field`
 
@@ -96,9 +99,9 @@ method_fault names class m n s =
 
 -- ---- all declarations
 
-unfoldable pub implements_judged : Names → List ℕ → List NameAt → Option Refusal → Option Refusal
-implements_judged names class [] found = found
-implements_judged names class (x ∷ xs) found = implements_judged names class xs (noted found x.line (implements_fault names class x))
+unfoldable pub implements_judged : Bool → List NameAt → Option Refusal → Option Refusal
+implements_judged has_run [] found = found
+implements_judged has_run (x ∷ xs) found = implements_judged has_run xs (noted found x.line (implements_fault has_run x))
 
 abbrev pub field_fault : Names → List ℕ → PlainFieldText → Counts → Bool → Option LinkKind
 field_fault names class f n is_full = typed_field_fault names class f n (type_of names.classes f.desc) is_full
@@ -124,7 +127,7 @@ methods_judged names class (m ∷ ms) n found = methods_judged names class ms (m
 
 abbrev pub lines_judged : Names → PlainClassText → Counts → Option Refusal → Option Refusal
 lines_judged names c n found =
-    implements_judged names c.name c.implements (noted (noted found c.line (class_fault names c n)) c.super_line (super_fault c))
+    implements_judged (has_run c) c.implements (noted (noted found c.line (class_fault names c n)) c.super_line (super_fault c))
 
 abbrev pub members_judged : Names → PlainClassText → Counts × Option Refusal → Counts × Option Refusal
 members_judged names c s = methods_judged names c.name c.methods s.0 s.1

@@ -1,5 +1,5 @@
 -- Instructions with numbers in place of names.
-use Rattle.std.specs.Prelude.{ℕ, ◌+◌, Bool, true, false, not, ◌&&◌, ◌||◌, if◌then◌else◌, ◌==◌, nat_le, nat_lt, List, [], ◌∷◌, ◌++◌, length, codes, bytes_eq, is_some, ℤ, unsigned_abs, Option, Some, None, Result, Ok, Err}
+use Rattle.std.specs.Prelude.{ℕ, Bool, ◌||◌, if◌then◌else◌, nat_lt, List, [], ◌∷◌, length, codes, bytes_eq, is_some, ℤ, unsigned_abs, Option, Some, None, Result, Ok, Err}
 use Rattle.vm_model.specs.declared.instr.Instr.{Instr}
 use Rattle.vm_model.specs.declared.instr.Instr.TheVariants as instr
 use Rattle.jasmin_reader.specs.declared.class_text.Operand.{Operand}

@@ -6,7 +6,6 @@ use Rattle.class_linker.specs.declared.fault.LinkKind.TheVariants.{NoMain}
 use Rattle.class_linker.specs.declared.fault.LinkFault.{LinkFault}
 use Rattle.class_linker.specs.declared.fault.LinkFault.TheVariants as fault
 use Rattle.class_linker.specs.declared.fault.Refusal.{Refusal}
-use Rattle.class_linker.specs.declared.names.Counts.{Counts}
 use Rattle.class_linker.specs.declared.names.Names.{Names}
 use Rattle.class_linker.specs.Lines.{◌>>=◌}
 use Rattle.class_linker.specs.Names.{names_of, no_counts}

@@ -1,9 +1,9 @@
 -- The names that classes declare, with their numbers. Each line adds its own; a name that is there keeps its number.
-use Rattle.std.specs.Prelude.{ℕ, ◌+◌, Bool, true, false, not, ◌&&◌, ◌||◌, if◌then◌else◌, ◌==◌, nat_lt, List, [], ◌∷◌, ◌++◌, length, fold, codes, bytes_eq, is_some, is_none, Option, Some, None}
-use Rattle.jasmin_reader.specs.Plain.{PlainClassText, PlainFieldText, PlainMethodText, PlainLineText}
+use Rattle.std.specs.Prelude.{ℕ, ◌+◌, Bool, not, ◌&&◌, if◌then◌else◌, ◌==◌, nat_lt, List, [], ◌∷◌, length, codes, bytes_eq, Option, Some, None}
+use Rattle.jasmin_reader.specs.Plain.{PlainClassText, PlainFieldText, PlainMethodText}
 use Rattle.class_linker.specs.declared.names.Counts.{Counts}
 use Rattle.class_linker.specs.declared.names.Names.{Names}
-use Rattle.class_linker.specs.Index.{Rows, value_of, with_row}
+use Rattle.class_linker.specs.Index.{Rows, with_row}
 use Rattle.class_linker.specs.Words.{has, method_key, field_word, field_key}
 
 -- Counting ends where no text comes to, far above each limit.

@@ -1,6 +1,6 @@
 -- The program of classes whose names are known.
-use Rattle.std.specs.Prelude.{ℕ, ◌+◌, Bool, true, false, not, if◌then◌else◌, ◌==◌, List, [], ◌∷◌, ◌++◌, length, map, codes, ℤ, pos, Option, Some, None, unwrap_or, Result, Ok, Err}
-use Rattle.vm_model.specs.Program.{PlainClass, PlainMethod, PlainProgram}
+use Rattle.std.specs.Prelude.{ℕ, Bool, false, not, if◌then◌else◌, ◌==◌, List, [], ◌∷◌, ◌++◌, length, map, codes, ℤ, pos, Option, None, unwrap_or, Result, Ok, Err}
+use Rattle.vm_model.specs.Program.{PlainClass, PlainMethod}
 use Rattle.vm_model.specs.declared.instr.Instr.{Instr}
 use Rattle.vm_model.specs.declared.instr.Instr.TheVariants as instr
 use Rattle.vm_model.specs.declared.program.Field.{Field}

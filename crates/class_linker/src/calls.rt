@@ -1,5 +1,5 @@
 // Members of classes, as instructions name them.
-ghost use Rattle.std.specs.Prelude.{◌≡◌, IfOk, Ok};
+ghost use Rattle.std.specs.Prelude.{◌≡◌, IfOk, Ok, is_some};
 ghost use Rattle.vm_model.specs.declared.instr.Instr.TheVariants as instr;
 ghost use Rattle.class_linker.specs.Calls as spec;
 ghost use Rattle.class_linker.specs.Lines.{Gives, or_fault};
@@ -238,11 +238,17 @@ fn is_out(word: &[u8], desc: &[u8]) -> bool
 }
 
 fn read_static(names: &Names, key: &[u8], is_out: bool) -> Option<Instr>
-    ensures { result ≡ spec.or_out is_out (spec.to_slot instr.GetStatic (value_of key.now names.now.statics)) }
+    ensures { result ≡ spec.read_static is_out (is_some (value_of key.now names.now.places)) (value_of key.now names.now.statics) }
 {
     match names.statics.find(key) {
         Some(slot) => Some(Instr::GetStatic(slot)),
-        None => { if is_out { Some(Instr::Out) } else { None } }
+        None => {
+            if is_out && names.places.find(key).is_none() {
+                Some(Instr::Out)
+            } else {
+                None
+            }
+        }
     }
 }
 
@@ -298,11 +304,17 @@ fn field_by(
 fn field_class(names: &Names, word: &[u8], desc: &[u8]) -> Result<u32, LineError>
     ensures { Gives (λ x. x) result (spec.field_class names.now word.now desc.now) }
 {
-    if is_out(word, desc) {
-        return Ok(0);
-    }
     let (class, _) = member(word);
-    class_or_fault(names, class)
+    match class_of(&names.classes, class) {
+        Some(number) => Ok(number),
+        None => {
+            if is_out(word, desc) {
+                Ok(0)
+            } else {
+                Err(LineError::Kind(LinkKind::UnknownClass))
+            }
+        }
+    }
 }
 
 /// The instruction that reads or writes a field.

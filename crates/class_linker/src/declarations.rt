@@ -63,26 +63,25 @@ fn super_fault(class: &ClassText) -> Option<LinkKind>
     only_if(LinkKind::OutOfProfile, is_foreign, None)
 }
 
-/// Whether a class has a `run()V` of its own that isn't static.
-fn has_run(alloc: Global, names: &Names, class: &[u8]) -> Result<bool, NoMemory>
-    ensures { IfOk result (λ b. b ≡ spec.has_run names.now class.now) }
+fn is_own_run(method: &MethodText) -> bool
+    ensures { result ≡ spec.is_own_run method.now }
 {
-    let key = method_key(alloc, class, b"run", b"()V")?;
-    Ok(names.instance_methods.find(&key).is_some())
+    is(method.name.bytes(), b"run") && is(method.desc.bytes(), b"()V") && !is_static(&method.flags)
 }
 
-fn implements_fault(
-    alloc: Global,
-    names: &Names,
-    class: &[u8],
-    name: &NameAt,
-) -> Result<Option<LinkKind>, NoMemory>
-    ensures { IfOk result (λ f. f ≡ spec.implements_fault names.now class.now name.now) }
+/// Whether a class has a `run()V` of its own that isn't static.
+fn has_run(class: &ClassText) -> bool
+    ensures { result ≡ spec.has_run class.now }
 {
-    let has_run = has_run(alloc, names, class)?;
+    class.methods.iter().any(|method| is_own_run(method))
+}
+
+fn implements_fault(has_run: bool, name: &NameAt) -> Option<LinkKind>
+    ensures { result ≡ spec.implements_fault has_run name.now }
+{
     let is_foreign = !is(name.name.bytes(), b"java/lang/Runnable");
     let foreign = only_if(LinkKind::OutOfProfile, is_foreign, None);
-    Ok(only_if(LinkKind::UnknownMethod, !has_run, foreign))
+    only_if(LinkKind::UnknownMethod, !has_run, foreign)
 }
 
 // ---- `.field`
@@ -214,23 +213,16 @@ fn method_fault(
 // ---- all declarations
 
 #[tactic(auto, unfolding(crate::specs::Judging::implements_judged))]
-fn judge_implements(
-    alloc: Global,
-    names: &Names,
-    class: &[u8],
-    implements: &[NameAt],
-    found: Option<Refusal>,
-) -> Result<Option<Refusal>, NoMemory>
-    ensures { IfOk result (λ f. f ≡ spec.implements_judged names.now class.now implements.now found) }
+fn judge_implements(has_run: bool, implements: &[NameAt], found: Option<Refusal>) -> Option<Refusal>
+    ensures { result ≡ spec.implements_judged has_run implements.now found }
 {
     let mut found = found;
     let mut rest = implements;
     while let [name, after @ ..] = rest {
-        let fault = implements_fault(alloc, names, class, name)?;
-        found = noted(found, name.line, fault);
+        found = noted(found, name.line, implements_fault(has_run, name));
         rest = after;
     }
-    Ok(found)
+    found
 }
 
 #[tactic(auto, unfolding(crate::specs::Judging::fields_judged))]
@@ -283,17 +275,16 @@ fn judge_methods(
 }
 
 fn judge_lines(
-    alloc: Global,
     names: &Names,
     class: &ClassText,
     counts: Counts,
     found: Option<Refusal>,
-) -> Result<Option<Refusal>, NoMemory>
-    ensures { IfOk result (λ f. f ≡ spec.lines_judged names.now class.now counts found) }
+) -> Option<Refusal>
+    ensures { result ≡ spec.lines_judged names.now class.now counts found }
 {
     let found = noted(found, class.line, class_fault(names, class, counts));
     let found = noted(found, class.super_line, super_fault(class));
-    judge_implements(alloc, names, class.name.bytes(), &class.implements, found)
+    judge_implements(has_run(class), &class.implements, found)
 }
 
 fn taken_of(counts: Counts, class: &ClassText) -> u32
@@ -313,7 +304,7 @@ fn judge_class(
     ensures { IfOk result (λ x. x ≡ spec.class_judged names.now class.now counts found) }
 {
     let name = class.name.bytes();
-    let found = judge_lines(alloc, names, class, counts, found)?;
+    let found = judge_lines(names, class, counts, found);
     let taken = taken_of(counts, class);
     let begun = counts.class_begun(class);
     let (counts, found) = judge_fields(alloc, names, name, taken, &class.fields, begun, found)?;

@@ -57,7 +57,7 @@ fn repeated(alloc: Global, piece: &str, times: u32) -> Result<String, NoMemory> 
 }
 
 // Members, and the number of their fault and its line.
-const MEMBERS_REFUSED: [(&str, (u8, u32)); 52] = [
+const MEMBERS_REFUSED: [(&str, (u8, u32)); 53] = [
     (".field x Z\n", (9, 3)),
     (".field x D\n", (9, 3)),
     (".field x [Z\n", (9, 3)),
@@ -85,6 +85,10 @@ const MEMBERS_REFUSED: [(&str, (u8, u32)); 52] = [
     (".field x I\n.field static x Z\n", (6, 4)),
     (".implements java/lang/Runnable\n", (4, 3)),
     (".implements B\n", (4, 3)),
+    (
+        ".implements java/lang/Runnable\n.class A\n.super java/lang/Object\n.method run()V\n.end method\n",
+        (4, 3),
+    ),
     (".implements B\n.method run()V\n.end method\n", (9, 3)),
     (
         ".method static run()V\n.end method\n.implements java/lang/Runnable\n",
@@ -359,7 +363,11 @@ fn bodies_taken(rt: HostRuntime) -> Result<(), Fail> {
     Ok(())
 }
 
-const TEXTS_REFUSED: [(&str, (u8, u32)); 10] = [
+const TEXTS_REFUSED: [(&str, (u8, u32)); 11] = [
+    (
+        ".class java/lang/System\n.super java/lang/Object\n.field out Ljava/io/PrintStream;\n.method public static main([Ljava/lang/String;)V\ngetstatic java/lang/System/out Ljava/io/PrintStream;\n.end method\n",
+        (3, 5),
+    ),
     ("", (1, 0)),
     (".class A\n.super java/lang/Object\n", (1, 0)),
     (
@@ -438,6 +446,31 @@ fn whole_program(rt: HostRuntime) -> Result<(), Fail> {
     assert!(rt; program.text(0) == b"b".as_slice() && program.text(1) == b"a".as_slice());
     assert!(rt; program.instr_at(0, 2) == Some(Instr::PushText(0)));
     assert!(rt; program.instr_at(2, 6) == Some(Instr::RunOf(2)));
+    Ok(())
+}
+
+const OWN_SYSTEM: &str =
+    ".class java/lang/System\n.super java/lang/Object\n.field out Ljava/io/PrintStream;\n.method public static main([Ljava/lang/String;)V\ngetfield java/lang/System/out Ljava/io/PrintStream;\nputfield java/lang/System/out Ljava/io/PrintStream;\n.end method\n";
+
+const READ_OUT: Instr = Instr::GetField {
+    class: 32,
+    place: 0,
+};
+
+const WRITE_OUT: Instr = Instr::PutField {
+    class: 32,
+    place: 0,
+};
+
+#[test]
+fn class_named_system(rt: HostRuntime) -> Result<(), Fail> {
+    let alloc = rt.alloc();
+    let program = match linked(alloc, OWN_SYSTEM.as_bytes()) {
+        Ok(program) => program,
+        Err(_) => return Err(Fail::from(NoMemory)),
+    };
+    assert!(rt; program.instr_at(0, 0) == Some(READ_OUT));
+    assert!(rt; program.instr_at(0, 1) == Some(WRITE_OUT));
     Ok(())
 }
 

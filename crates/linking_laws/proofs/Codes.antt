@@ -19,7 +19,7 @@ use Rattle.class_linker.specs.BuiltIn as built_in
 use Rattle.class_linker.specs.Words.{field_key}
 use Rattle.class_linker.specs.BuiltIn.{has_lock, lock_member, thread_member, stream_member, has_constructor, has_text_constructor, constructor, first_some, of_lock, of_thread, of_stream, instance_member}
 use Rattle.class_linker.specs.Descriptors.{class_of}
-use Rattle.class_linker.specs.Calls.{static_call, virtual_run, virtual_member, virtual_call, special_member, special_call, call_by, target_of, call, or_out, to_slot, field_by, field_class, field, is_run, is_out}
+use Rattle.class_linker.specs.Calls.{static_call, virtual_run, virtual_member, virtual_call, special_member, special_call, call_by, target_of, call, read_static, to_slot, field_by, field_class, field, is_run, is_out}
 use Rattle.class_linker.specs.Linked.{row_of, alone, int_jump, pair_jump, other_jump, or_else, jump_to, numbered, texted, made, jumped, worded, is_call, linked_by, linked}
 use Rattle.class_linker.specs.Programs.{kept, code_of}
 use Rattle.machine_model.specs.Declarations.{declarations_of}
@@ -204,10 +204,10 @@ slot_fine : (p : PlainProgram) (make : ℕ → Instr) (o : Option ℕ) → ((n :
 slot_fine p make None h = tt
 slot_fine p make (Some n) h = h n
 
--- or the stream
-out_fine : (p : PlainProgram) (b : Bool) (o : Option Instr) → Fine p o → Fine p (or_out b o)
-out_fine p b (Some i) h = h
-out_fine p b None h = if_fine p b (Some instr.Out) None (λ k. refl) tt
+-- a static, or the stream
+read_fine : (p : PlainProgram) (is_out is_place : Bool) (o : Option ℕ) → Fine p (read_static is_out is_place o)
+read_fine p is_out is_place (Some n) = refl
+read_fine p is_out is_place None = if_fine p (is_out && not is_place) (Some instr.Out) None (λ k. refl) tt
 
 -- a field by its mnemonic
 by_fine : (p : PlainProgram) (names : Names) (mnemonic word desc : List ℕ) (class : ℕ) → Fine p (field_by names mnemonic word desc class)
@@ -220,8 +220,8 @@ by_fine p names mnemonic word desc class = by (bytes_eq mnemonic (codes "getstat
     place = value_of (field_key word desc) names.places
 
     by : (a b c : Bool)
-        → Fine p (if a then or_out (is_out word desc) (to_slot instr.GetStatic slot) else if b then to_slot instr.PutStatic slot else if c then to_slot (instr.GetField class) place else to_slot (instr.PutField class) place)
-    by true b c = out_fine p (is_out word desc) (to_slot instr.GetStatic slot) (slot_fine p instr.GetStatic slot (λ n. refl))
+        → Fine p (if a then read_static (is_out word desc) (is_some place) slot else if b then to_slot instr.PutStatic slot else if c then to_slot (instr.GetField class) place else to_slot (instr.PutField class) place)
+    by true b c = read_fine p (is_out word desc) (is_some place) slot
     by false true c = slot_fine p instr.PutStatic slot (λ n. refl)
     by false false true = slot_fine p (instr.GetField class) place (λ n. refl)
     by false false false = slot_fine p (instr.PutField class) place (λ n. refl)

@@ -15,7 +15,7 @@ use Rattle.class_linker.specs.Index.{Rows}
 use Rattle.class_linker.specs.Linked.{linked}
 use Rattle.class_linker.specs.Names.{next, is_named, is_main, first_main, no_counts, no_names, class_begun, field_counted, method_counted, counted_if, with_class, with_field, with_method, with_fields, with_methods, with_whole, with_classes, names_of}
 use Rattle.class_linker.specs.Judging as judging
-use Rattle.class_linker.specs.Judging.{class_fault, super_fault, implements_fault, field_fault, is_full, taken, judged_method, implements_judged, fields_judged, lines_judged, class_judged, classes_judged}
+use Rattle.class_linker.specs.Judging.{class_fault, super_fault, has_run, implements_fault, field_fault, is_full, taken, judged_method, implements_judged, fields_judged, lines_judged, class_judged, classes_judged}
 use Rattle.class_linker.specs.Bodies as bodies
 use Rattle.class_linker.specs.Bodies.{labels_of, fault_in, line_judged, code_judged, catches_judged, body_judged, bodies_judged}
 use Rattle.linking_laws.specs.LinkFaults.{of_line, implements_faults, head_faults, fields_counted, methods_counted, whole_counted, fields_faults, methods_faults, class_faults, classes_faults, line_faults, code_faults, catches_faults, method_faults, bodies_faults, has_main}
@@ -28,18 +28,18 @@ two_noted found line fault other also = noted_line (noted found line fault) othe
 -- ---- declarations
 
 -- `.implements`
-implements_noted : (names : Names) (class : List ℕ) (xs : List NameAt) (found : Option Refusal) → implements_judged names class xs found ≡ all_noted found (implements_faults names class xs)
+implements_noted : (has_run : Bool) (xs : List NameAt) (found : Option Refusal) → implements_judged has_run xs found ≡ all_noted found (implements_faults has_run xs)
 unfolding implements_judged
-implements_noted names class [] found = refl
-implements_noted names class (x ∷ xs) found =
-    implements_noted names class xs (noted found x.line (implements_fault names class x)) ∙ noted_before found x.line (implements_fault names class x) (implements_faults names class xs)
+implements_noted has_run [] found = refl
+implements_noted has_run (x ∷ xs) found =
+    implements_noted has_run xs (noted found x.line (implements_fault has_run x)) ∙ noted_before found x.line (implements_fault has_run x) (implements_faults has_run xs)
 
 -- with `.class` and `.super`
 head_noted : (names : Names) (c : PlainClassText) (n : Counts) (found : Option Refusal) → lines_judged names c n found ≡ all_noted found (head_faults names c n)
 head_noted names c n found =
-    implements_noted names c.name c.implements (noted (noted found c.line (class_fault names c n)) c.super_line (super_fault c))
-    ∙ ap (λ (o : Option Refusal). all_noted o (implements_faults names c.name c.implements)) (two_noted found c.line (class_fault names c n) c.super_line (super_fault c))
-    ∙ sym (noted_both found (of_line c.line (class_fault names c n) ++ of_line c.super_line (super_fault c)) (implements_faults names c.name c.implements))
+    implements_noted (has_run c) c.implements (noted (noted found c.line (class_fault names c n)) c.super_line (super_fault c))
+    ∙ ap (λ (o : Option Refusal). all_noted o (implements_faults (has_run c) c.implements)) (two_noted found c.line (class_fault names c n) c.super_line (super_fault c))
+    ∙ sym (noted_both found (of_line c.line (class_fault names c n) ++ of_line c.super_line (super_fault c)) (implements_faults (has_run c) c.implements))
 
 -- `.field`
 fields_noted : (names : Names) (class : List ℕ) (taken : ℕ) (fs : List PlainFieldText) (n : Counts) (found : Option Refusal) → (fields_judged names class taken fs n found).1 ≡ all_noted found (fields_faults names class taken fs n)

@@ -150,16 +150,16 @@ pub record FineClass (names : Names) (number : ℕ) (c : PlainClassText) : Type 
   pub named : is_named c ≡ true
   pub few : number < 288
   pub has_number : value_of c.name names.classes ≡ Some number
-  pub run : is_runnable c ≡ true → has_run names c.name ≡ true
+  pub run : is_runnable c ≡ true → has_run c ≡ true
 
 -- a class with `.implements` that is let through has a run
-implements_fine : (names : Names) (class : List ℕ) (xs : List NameAt) (found : Option Refusal) → implements_judged names class xs found ≡ None → (found ≡ None) × (not (length xs == 0) ≡ true → has_run names class ≡ true)
+implements_fine : (runs : Bool) (xs : List NameAt) (found : Option Refusal) → implements_judged runs xs found ≡ None → (found ≡ None) × (not (length xs == 0) ≡ true → runs ≡ true)
 unfolding implements_judged
-implements_fine names class [] found e = (e, λ h. absurd (false≢true h))
-implements_fine names class (x ∷ xs) found e =
-    let rest : (noted found x.line (implements_fault names class x) ≡ None) × (not (length xs == 0) ≡ true → has_run names class ≡ true) = implements_fine names class xs _ e in
-    let here : (found ≡ None) × (implements_fault names class x ≡ None) = noted_none _ _ _ rest.0 in
-    (here.0, λ h. not_false (has_run names class) (only_none _ _ _ here.1).0)
+implements_fine runs [] found e = (e, λ h. absurd (false≢true h))
+implements_fine runs (x ∷ xs) found e =
+    let rest : (noted found x.line (implements_fault runs x) ≡ None) × (not (length xs == 0) ≡ true → runs ≡ true) = implements_fine runs xs _ e in
+    let here : (found ≡ None) × (implements_fault runs x ≡ None) = noted_none _ _ _ rest.0 in
+    (here.0, λ h. not_false runs (only_none _ _ _ here.1).0)
 
 -- a class with a name that is let through has its own number
 named_fine : (names : Names) (c : PlainClassText) (n : Counts) (b : Bool) → is_named c ≡ b → (if b then named_fault names c n else Some kinds.OutOfProfile) ≡ None → (is_named c ≡ true) × (n.classes < 288) × (value_of c.name names.classes ≡ Some n.classes)
@@ -172,7 +172,7 @@ named_fine names c n true is e =
 -- what is let through of a class, before its members
 lines_fine : (names : Names) (c : PlainClassText) (n : Counts) (found : Option Refusal) → lines_judged names c n found ≡ None → (found ≡ None) × FineClass names n.classes c
 lines_fine names c n found e =
-    let implemented : _ = implements_fine names c.name c.implements _ e in
+    let implemented : _ = implements_fine (has_run c) c.implements _ e in
     let super : _ = noted_none (noted found c.line (class_fault names c n)) c.super_line (super_fault c) implemented.0 in
     let first : _ = noted_none found c.line (class_fault names c n) super.0 in
     let named : _ = named_fine names c n (is_named c) refl first.1 in

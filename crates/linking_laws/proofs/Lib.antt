@@ -4,6 +4,7 @@ pub mod Statics
 pub mod Judged
 pub mod Keys
 pub mod Numbered
+pub mod Runs
 pub mod Bodies
 pub mod Linkings
 pub mod There

@@ -12,8 +12,8 @@ use Rattle.class_linker.specs.declared.names.Names.{Names}
 use Rattle.class_linker.specs.Index.{Rows, value_of}
 use Rattle.class_linker.specs.Words.{method_key}
 use Rattle.class_linker.specs.Descriptors.{types_within, method_signature, kind_of, kind_given}
-use Rattle.class_linker.specs.Names.{next, names_of, no_counts, no_names, with_whole}
-use Rattle.class_linker.specs.Judging.{classes_judged, class_judged}
+use Rattle.class_linker.specs.Names.{next, names_of, no_counts, no_names, with_classes, with_whole}
+use Rattle.class_linker.specs.Judging.{classes_judged, class_judged, has_run}
 use Rattle.class_linker.specs.Bodies.{PlainTexts, texts_of, labels_of}
 use Rattle.class_linker.specs.Programs.{linked_class, methods_in, methods_of, thread_method}
 use Rattle.class_linker.specs.Linking.{program_of, linking}
@@ -25,6 +25,7 @@ use Rattle.linking_laws.proofs.Statics.{statics_fit}
 use Rattle.linking_laws.proofs.Judged.{FineClass, JudgedClasses, classes_first}
 use Rattle.linking_laws.proofs.Keys.{Without, class_without_bracket, same_parts}
 use Rattle.linking_laws.proofs.Numbered.{none_some, some_same, Known, AllKnown, Numbered, OwnedAt, MainAt, next_number, there_before, behind_class, number_behind}
+use Rattle.linking_laws.proofs.Runs.{Has, run_added, names_behind}
 use Rattle.linking_laws.proofs.Linkings.{Links, given, numbered}
 use Rattle.linking_laws.proofs.There.{at_least, next_above, numbers}
 
@@ -76,20 +77,26 @@ record ClassOf (judging : Names) (number : ℕ) (class : PlainClass) : Type 0 wh
   pub is : linked_class judging text ≡ class
   pub fine : FineClass judging number text
   pub named : IsNamedClass text
+  pub own_run : has_run text ≡ true → Has (method_key text.name (codes "run") (codes "()V")) judging
+
+-- all names are those of the classes, one after another
+all_named_so : (classes : List PlainClassText) → with_classes classes no_counts no_names ≡ names_of classes
+unfolding names_of
+all_named_so classes = refl
 
 -- each class that is let through has its own number
-class_of : (judging names : Names) (cs : List PlainClassText) (n : Counts) (found : Option Refusal) (i : ℕ) (class : PlainClass) → AreNamed cs → classes_judged judging cs n found ≡ None → slice_get (map (linked_class judging) cs) i ≡ Some class
-    → ClassOf judging (n.classes + i) class
-class_of judging names [] n found i class all e is = absurd (none_some class is)
-class_of judging names (c ∷ cs) n found zero class all e is =
+class_of : (judging : Names) (whole : Counts × Names) (names : Names) (cs : List PlainClassText) (n : Counts) (found : Option Refusal) (i : ℕ) (class : PlainClass) → AreNamed cs → classes_judged judging cs n found ≡ None → with_classes cs n names ≡ whole → whole.1 ≡ judging
+    → slice_get (map (linked_class judging) cs) i ≡ Some class → ClassOf judging (n.classes + i) class
+class_of judging whole names [] n found i class all e behind are is = absurd (none_some class is)
+class_of judging whole names (c ∷ cs) n found zero class all e behind are is =
     let first : JudgedClasses judging names c cs n found = classes_first judging names c cs n found e in
     let same : n.classes ≡ n.classes + 0 = omega arith in
-    subst (λ (k : ℕ). ClassOf judging k class) same (record { text = c; is = some_same (linked_class judging c) class is; fine = first.class; named = all.0 })
-class_of judging names (c ∷ cs) n found (suc i) class all e is =
+    subst (λ (k : ℕ). ClassOf judging k class) same (record { text = c; is = some_same (linked_class judging c) class is; fine = first.class; named = all.0; own_run = λ has. subst (Has (method_key c.name (codes "run") (codes "()V"))) (ap (λ (w : Counts × Names). w.1) behind ∙ are) (run_added c cs n names has) })
+class_of judging whole names (c ∷ cs) n found (suc i) class all e behind are is =
     let first : JudgedClasses judging names c cs n found = classes_first judging names c cs n found e in
     let counted : (behind_class c n names).classes ≡ n.classes + 1 = number_behind judging names c n first.class ∙ next_number n.classes (omega (arith, first.class.few)) in
     let same : (behind_class c n names).classes + i ≡ n.classes + suc i = omega (arith, counted) in
-    subst (λ (k : ℕ). ClassOf judging k class) same (class_of judging (with_whole c n names).1 cs (behind_class c n names) (class_judged judging c n found).1 i class all.1 first.rest is)
+    subst (λ (k : ℕ). ClassOf judging k class) same (class_of judging whole (with_whole c n names).1 cs (behind_class c n names) (class_judged judging c n found).1 i class all.1 first.rest (sym (names_behind c cs n names) ∙ behind) are is)
 
 -- the descriptor of run takes nothing
 run_params : (classes : Rows) → map kind_of (method_signature classes (codes "run") (codes "()V")).params ≡ []
@@ -180,14 +187,14 @@ linked_is_well_linked classes p named e = subst IsWellLinked g.is (record {
     class_linked_by number class at = subst (IsLinkedClass whole number) at.is (record {
       run = if_found (λ k. is_run_method number (slice_get (methods ++ thread_method ∷ []) k) ≡ true) (value_of (method_key at.text.name (codes "run") (codes "()V")) names.instance_methods)
           (λ k found. run_there names methods number at.text k at.fine at.named (s.rows (method_key at.text.name (codes "run") (codes "()V")) k found));
-      runnable = λ runnable no_thread. at.fine.run runnable;
+      runnable = λ runnable no_thread. at.own_run (at.fine.run runnable);
     })
 
     class_there : (number : ℕ) (class : PlainClass) (b : Bool) → nat_le 32 number ≡ b → (if b then slice_get (map (linked_class names) classes) (number - 32) else None) ≡ Some class → IsLinkedClass whole number class
     class_there number class false low is = absurd (none_some class is)
     class_there number class true low is =
         let same : 32 + (number - 32) ≡ number = grind (arith, nat_tests) in
-        class_linked_by number class (subst (λ (k : ℕ). ClassOf names k class) same (class_of names no_names classes no_counts None (number - 32) class named g.declared is))
+        class_linked_by number class (subst (λ (k : ℕ). ClassOf names k class) same (class_of names (names_of classes) no_names classes no_counts None (number - 32) class named g.declared (all_named_so classes) refl is))
 
     class_linked : (number : ℕ) (class : PlainClass) → class_at whole number ≡ Some class → IsLinkedClass whole number class
     class_linked number class is = class_there number class (nat_le 32 number) refl is

@@ -14,7 +14,7 @@ use Rattle.class_linker.specs.Faults.{is_before, only_if}
 use Rattle.class_linker.specs.Index.{Rows}
 use Rattle.class_linker.specs.Names.{next, no_counts, names_of, is_named, is_main, class_begun, field_counted, method_counted, counted_if}
 use Rattle.class_linker.specs.Linked.{linked}
-use Rattle.class_linker.specs.Judging.{class_fault, super_fault, implements_fault, field_fault, is_full, taken, judged_method}
+use Rattle.class_linker.specs.Judging.{class_fault, super_fault, has_run, implements_fault, field_fault, is_full, taken, judged_method}
 use Rattle.class_linker.specs.Bodies.{texts_of, labels_of, fault_in}
 
 -- the first of faults: it is one of them, and none of them comes before it
@@ -30,11 +30,11 @@ of_line line (Some kind) = record { kind = kind; line = line } ∷ []
 -- ---- declarations
 
 -- `.class`, `.super` and `.implements`
-abbrev pub implements_faults : Names → List ℕ → List NameAt → List Refusal
-implements_faults names class xs = flat_map (λ x. of_line x.line (implements_fault names class x)) xs
+abbrev pub implements_faults : Bool → List NameAt → List Refusal
+implements_faults has_run xs = flat_map (λ x. of_line x.line (implements_fault has_run x)) xs
 
 abbrev pub head_faults : Names → PlainClassText → Counts → List Refusal
-head_faults names c n = of_line c.line (class_fault names c n) ++ of_line c.super_line (super_fault c) ++ implements_faults names c.name c.implements
+head_faults names c n = of_line c.line (class_fault names c n) ++ of_line c.super_line (super_fault c) ++ implements_faults (has_run c) c.implements
 
 -- what is counted behind the fields of a class, its methods, and the class itself
 abbrev pub fields_counted : List PlainFieldText → Counts → Counts

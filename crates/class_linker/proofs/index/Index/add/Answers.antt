@@ -1,5 +1,4 @@
 use Rattle.std.proofs.Common.{sym, ◌∙◌, ap, is_some, not}
-use Rattle.class_linker.specs.Index.{value_of}
 use Rattle.class_linker.proofs.Rows.{add-new}
 use Rattle.class_linker.proofs.index.Index.add.Goals as goal
 

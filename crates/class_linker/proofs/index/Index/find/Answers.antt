@@ -1,4 +1,4 @@
-use Rattle.std.proofs.Common.{sym, ◌∙◌, ap}
+use Rattle.std.proofs.Common.{◌∙◌, ap}
 use Rattle.class_linker.specs.Index.{value_of}
 use Rattle.class_linker.proofs.Rows.{found-row}
 use Rattle.class_linker.proofs.index.Index.find.Goals as goal
