@@ -1,4 +1,4 @@
-ghost use Rattle.std.specs.Prelude.{◌≡◌, ◌<◌, ◌≤◌, ℕ, List, [], length, true, false, IfOk, OnOk, OnErr, IfSome, IfNone, None};
+ghost use Rattle.std.specs.Prelude.{◌≡◌, ◌+◌, ◌<◌, ◌≤◌, ℕ, List, [], Contains, length, true, false, IfOk, OnOk, OnErr, IfSome, IfNone, None};
 ghost use Rattle.std.specs.Option.{option_copied};
 ghost use Rattle.tool_io.specs.Memory.{AreDistinct, IsPlaceOf, file_in, raised_count};
 ghost use Rattle.tool_io.specs.Outside.{HasLoadFailed, HasPutFailed, HasStoreFailed, LoadFails, LoadGives, PutFails, PutGives, PutTakes, SetsFile, StoreFails, StoreGives};
@@ -33,7 +33,8 @@ impl Model for MemoryFolder {
 
 /// Whether the call of this number is to fail.
 fn is_failing(failing: &[u64], call: u64) -> bool
-    ensures { failing.now ≡ [] → result ≡ false }
+    ensures listed { Contains failing.now call → result ≡ true }
+    ensures none { failing.now ≡ [] → result ≡ false }
 {
     failing.contains(&call)
 }
@@ -118,6 +119,8 @@ impl MemoryFolder {
         ensures failing { self.new.failing ≡ self.old.failing }
         ensures loads { self.new.load_faults ≡ self.old.load_faults }
         ensures stores { self.new.store_faults ≡ self.old.store_faults }
+        ensures calls { self.new.calls ≡ raised_count self.old.calls }
+        ensures listed { Contains self.old.failing self.old.calls → result ≡ true }
         ensures none { self.old.failing ≡ [] → result ≡ false }
     {
         let fails = is_failing(&self.failing, self.calls);
@@ -142,6 +145,7 @@ impl MemoryFolder {
     fn keep_copy(&mut self, alloc: Global, name: &str, bytes: &[u8]) -> Result<(), NoMemory>
         ensures ok { OnOk result (SetsFile (file_in self.old.files) (file_in self.new.files) name.now bytes.now) }
         ensures err { OnErr result (self.new.files ≡ self.old.files) }
+        ensures calls { self.new.calls ≡ self.old.calls }
         ensures failing { self.new.failing ≡ self.old.failing }
         ensures loads { self.new.load_faults ≡ self.old.load_faults }
         ensures stores { self.new.store_faults ≡ self.old.store_faults }
@@ -172,7 +176,9 @@ impl Folder for MemoryFolder {
         ensures failed { LoadFails self.old.load_faults self.new.load_faults result }
         ensures stores { self.new.store_faults ≡ self.old.store_faults }
 
-        // A folder with no failing calls never fails.
+        // The calls of the list fail, and with an empty list none does.
+        ensures calls { self.new.calls ≡ raised_count self.old.calls }
+        ensures listed { Contains self.old.failing self.old.calls → HasLoadFailed result }
         ensures never { self.old.failing ≡ [] → HasLoadFailed result → ⊥ }
         ensures failing { self.new.failing ≡ self.old.failing }
     {
@@ -190,7 +196,9 @@ impl Folder for MemoryFolder {
         ensures failed { StoreFails self.old.store_faults self.new.store_faults result }
         ensures loads { self.new.load_faults ≡ self.old.load_faults }
 
-        // A folder with no failing calls never fails.
+        // The calls of the list fail, and with an empty list none does.
+        ensures calls { self.new.calls ≡ raised_count self.old.calls }
+        ensures listed { Contains self.old.failing self.old.calls → HasStoreFailed result }
         ensures never { self.old.failing ≡ [] → HasStoreFailed result → ⊥ }
         ensures failing { self.new.failing ≡ self.old.failing }
     {
@@ -261,7 +269,10 @@ impl Sink for MemorySink {
         ensures counted { self.old.faults ≤ self.new.faults }
         ensures failed { PutFails self.old.faults self.new.faults result }
 
-        // With no failing puts it fails only where there is no room.
+        // The puts of the list fail. With an empty list one fails only where there is no room, which only what is taken takes.
+        ensures calls { self.new.calls ≡ raised_count self.old.calls }
+        ensures listed { Contains self.old.failing self.old.calls → HasPutFailed result }
+        ensures room { length self.old.taken + self.old.room ≤ length self.new.taken + self.new.room }
         ensures never { self.old.failing ≡ [] → HasPutFailed result → self.old.room < length piece.now }
         ensures failing { self.new.failing ≡ self.old.failing }
     {
