@@ -15,3 +15,4 @@ pub mod EarlyFrames
 pub mod EarlyActions
 pub mod EarlySteps
 pub mod FirstOperation
+pub mod Found

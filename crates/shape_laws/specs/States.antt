@@ -1,5 +1,5 @@
 -- When the state of a thread fits a table of shapes.
-use Rattle.std.specs.Prelude.{◌≡◌, ℕ, Bool, true, List, [], ◌∷◌, Option, Some, None}
+use Rattle.std.specs.Prelude.{◌≡◌, ◌≢◌, ℕ, Bool, true, List, [], ◌∷◌, Option, Some, None}
 use Rattle.vm_model.specs.declared.value.Value.{Value}
 use Rattle.vm_model.specs.declared.value.Lock.{Lock}
 use Rattle.vm_model.specs.declared.value.Kind.{Kind}
@@ -7,14 +7,15 @@ use Rattle.vm_model.specs.declared.op.Op.{Op}
 use Rattle.vm_model.specs.declared.op.Op.TheVariants as op
 use Rattle.vm_model.specs.declared.op.Reply.{Reply}
 use Rattle.vm_model.specs.declared.op.Reply.TheVariants as reply
-use Rattle.vm_model.specs.Program.{PlainMethod, PlainProgram, method_at}
+use Rattle.vm_model.specs.declared.instr.Instr.{Instr}
+use Rattle.vm_model.specs.Program.{PlainMethod, PlainProgram, instr_at, method_at}
 use Rattle.machine_model.specs.Frames.{Frame, Phase, Plain, Entering, Left, Waiting, Raised, LocalState, Ended, Running}
 use Rattle.machine_model.specs.Operands.{Asks, next}
 use Rattle.machine_model.specs.Effect.{action}
 use Rattle.machine_model.specs.LocalStep.{with_given, with_reply}
-use Rattle.machine_model.specs.Shapes.{Table, given_kind}
+use Rattle.machine_model.specs.Shapes.{Shape, Table, Refused, flow, given_kind}
 use Rattle.shape_laws.specs.Linked.{has_thread_run}
-use Rattle.shape_laws.specs.Fitting.{has_objects, is_made, is_of, FitsAt}
+use Rattle.shape_laws.specs.Fitting.{has_objects, is_made, is_of, FitsAt, FitsShape}
 
 -- what a method gives back is of the kind that it is declared to give
 abbrev pub GivenFits : PlainProgram → Option Value → Option Kind → Type 0
@@ -28,6 +29,15 @@ pub record FitsFrame (p : PlainProgram) (table : Table) (f : Frame) : Type 0 whe
   pub method : PlainMethod
   pub is_method : method_at p f.method ≡ Some method
   pub at : FitsAt p table f
+
+-- The instruction of the frame is there and finds what it takes: the operands and the locals are of the kinds of a shape
+-- that it doesn't refuse.
+pub record FindsOperands (p : PlainProgram) (f : Frame) : Type 0 where
+  pub shape : Shape
+  pub instruction : Instr
+  pub is_there : instr_at p f.method f.place ≡ Some instruction
+  pub fits_it : FitsShape p shape f
+  pub taken : flow p f.method instruction shape ≢ Refused
 
 -- a frame that stands at a call fits the table behind it, whatever its callee gives back
 abbrev pub Awaits : PlainProgram → Table → Option Kind → Frame → Type 0

@@ -14,7 +14,7 @@ ghost use Rattle.machine_model.specs.Shared.{SharedState};
 ghost use Rattle.machine_model.specs.Machine.{MachineState, end_of, run, start_machine};
 ghost use Rattle.machine_model.specs.Shapes.{Table, IsShapeTable, IsVerified};
 ghost use Rattle.shape_laws.specs.Fitting.{has_objects};
-ghost use Rattle.shape_laws.specs.States.{FitsFrame, FitsTable, is_made_op, is_made_reply};
+ghost use Rattle.shape_laws.specs.States.{FindsOperands, FitsFrame, FitsTable, is_made_op, is_made_reply};
 ghost use Rattle.shape_laws.specs.Linked.{IsWellLinked, NamesWhatIsThere, has_thread_run};
 ghost use Rattle.shape_laws.specs.Worlds.{FitsMachine, FitsWorld};
 
@@ -37,8 +37,9 @@ pub fn replies_fit()
 {}
 
 /// The instruction of a frame that fits is there and finds its operands, each of the kind that it takes, and its locals set
-/// (JVMS SE 8 §4.10). So a thread whose state fits asks for an operation until it is ended.
+/// (JVMS SE 8 §4.10). So what it does is defined, and a thread whose state fits asks for an operation until it is ended.
 pub fn operands_are_found()
+    ensures operands { (p : PlainProgram) (table : Table) (f : Frame) → IsShapeTable p table → FitsFrame p table f → FindsOperands p f }
     ensures action { (p : PlainProgram) (table : Table) (f : Frame) → IsWellLinked p → IsShapeTable p table → FitsFrame p table f → action p f ≢ Undefined }
     ensures operation { (p : PlainProgram) (table : Table) (l : LocalState) → IsWellLinked p → IsShapeTable p table → FitsTable p table l → l ≢ Ended → is_some (pending_operation p l) ≡ true }
 {}
