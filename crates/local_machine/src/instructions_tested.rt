@@ -77,13 +77,13 @@ fn orders(alloc: Global, case: &(Instr, [i32; 5])) -> Result<bool, NoMemory> {
 
 /// Whether these instructions of main end in this fault at this place.
 fn fails(alloc: Global, case: &([Instr; 4], FaultKind, u32)) -> Result<bool, NoMemory> {
-    let (code, kind, at) = *case;
+    let ([a, b, c, d], kind, at) = *case;
     let fault = Op::Fault {
         kind,
         method: 0,
         at,
     };
-    asks(alloc, &code, Some(fault))
+    asks(alloc, &[a, b, c, d], Some(fault))
 }
 
 const GREATEST: i32 = 2147483647;

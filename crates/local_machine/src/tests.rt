@@ -162,6 +162,34 @@ fn plays(
     follows(alloc, plain, &mut local, script)
 }
 
+/// The same of a main of this code, with no method to call.
+fn alone_plays(
+    alloc: Global,
+    main: &[Instr],
+    first: Op,
+    script: &[(Reply, Option<Op>)],
+) -> Result<bool, NoMemory>
+    requires { length main.now ≤ 64 }
+{
+    let plain = main_alone(alloc, main)?;
+    plays(alloc, &plain, first, script)
+}
+
+/// The same of a main of this code that calls that method.
+fn calling_plays(
+    alloc: Global,
+    main: &[Instr],
+    callee: Method,
+    first: Op,
+    script: &[(Reply, Option<Op>)],
+) -> Result<bool, NoMemory>
+    requires main { length main.now ≤ 64 }
+    requires callee { length callee.code ≤ 64 }
+{
+    let plain = program(alloc, false, main, callee)?;
+    plays(alloc, &plain, first, script)
+}
+
 const SUBTRACT: [Instr; 4] = [
     Instr::Iload(0),
     Instr::Iload(1),
@@ -211,16 +239,16 @@ const PUT_TEXT: Op = Op::PutStatic {
 fn calls(rt: HostRuntime) -> Result<(), Fail> {
     let alloc = rt.alloc();
     let callee = method(alloc, &[Kind::Int, Kind::Int], false, &SUBTRACT)?;
-    let plain = program(alloc, false, &CALL_SUBTRACT, callee)?;
-    assert!(rt; plays(alloc, &plain, PUT_TWO, &END)?);
-    let code = [Instr::Aload(2), Instr::PutStatic(0)];
-    let callee = method(alloc, &[], false, &code)?;
-    let plain = program(alloc, false, &[Instr::InvokeStatic(1)], callee)?;
-    assert!(rt; plays(alloc, &plain, PUT_NULL, &[])?);
-    let code = [Instr::Aload(0), Instr::Areturn];
-    let callee = method(alloc, &[Kind::Null], false, &code)?;
-    let plain = program(alloc, false, &GIVE_BACK, callee)?;
-    assert!(rt; plays(alloc, &plain, PUT_TEXT, &END)?);
+    assert!(rt; calling_plays(alloc, &CALL_SUBTRACT, callee, PUT_TWO, &END)?);
+    let callee = method(alloc, &[], false, &[Instr::Aload(2), Instr::PutStatic(0)])?;
+    assert!(rt; calling_plays(alloc, &[Instr::InvokeStatic(1)], callee, PUT_NULL, &[])?);
+    let callee = method(
+        alloc,
+        &[Kind::Null],
+        false,
+        &[Instr::Aload(0), Instr::Areturn],
+    )?;
+    assert!(rt; calling_plays(alloc, &GIVE_BACK, callee, PUT_TEXT, &END)?);
     Ok(())
 }
 
@@ -266,12 +294,10 @@ const GET: Op = Op::GetStatic { slot: 0 };
 #[test]
 fn ticks(rt: HostRuntime) -> Result<(), Fail> {
     let alloc = rt.alloc();
-    let plain = main_alone(alloc, &[Instr::Goto(0)])?;
-    assert!(rt; plays(alloc, &plain, Op::Tick, &[(Reply::Unit, Some(Op::Tick))])?);
-    let plain = main_alone(alloc, &EXACT)?;
-    assert!(rt; plays(alloc, &plain, GET, &[])?);
-    let plain = main_alone(alloc, &ONE_MORE)?;
-    assert!(rt; plays(alloc, &plain, Op::Tick, &[(Reply::Unit, Some(GET))])?);
+    let on = [(Reply::Unit, Some(Op::Tick))];
+    assert!(rt; alone_plays(alloc, &[Instr::Goto(0)], Op::Tick, &on)?);
+    assert!(rt; alone_plays(alloc, &EXACT, GET, &[])?);
+    assert!(rt; alone_plays(alloc, &ONE_MORE, Op::Tick, &[(Reply::Unit, Some(GET))])?);
     Ok(())
 }
 
@@ -571,8 +597,7 @@ const OBJECTS: [([Instr; 4], [(Reply, Option<Op>); 3]); 11] = [
 fn works(alloc: Global, case: &([Instr; 4], [(Reply, Option<Op>); 3])) -> Result<bool, NoMemory> {
     let ([a, b, c, d], script) = *case;
     let code = [Instr::New(32), Instr::Dup, a, b, c, d];
-    let plain = main_alone(alloc, &code)?;
-    plays(alloc, &plain, Op::New { class: 32 }, &script)
+    alone_plays(alloc, &code, Op::New { class: 32 }, &script)
 }
 
 #[test]
@@ -616,17 +641,20 @@ const CALLED: [(Reply, Option<Op>); 5] = [
     (Reply::Unit, Some(Op::ThreadEnd)),
 ];
 
+/// Whether a call on an object by this code goes on as wanted.
+fn calls_on_object(alloc: Global, main: &[Instr]) -> Result<bool, NoMemory>
+    requires { length main.now ≤ 64 }
+{
+    let mut callee = method(alloc, &[Kind::Int], true, &PUT_AND_GIVE)?;
+    callee.is_static = false;
+    calling_plays(alloc, main, callee, Op::New { class: 32 }, &CALLED)
+}
+
 #[test]
 fn calls_on_objects(rt: HostRuntime) -> Result<(), Fail> {
     let alloc = rt.alloc();
-    let mut callee = method(alloc, &[Kind::Int], true, &PUT_AND_GIVE)?;
-    callee.is_static = false;
-    let plain = program(alloc, false, &CALL_VIRTUAL, callee)?;
-    assert!(rt; plays(alloc, &plain, Op::New { class: 32 }, &CALLED)?);
-    let mut callee = method(alloc, &[Kind::Int], true, &PUT_AND_GIVE)?;
-    callee.is_static = false;
-    let plain = program(alloc, false, &CALL_SPECIAL, callee)?;
-    assert!(rt; plays(alloc, &plain, Op::New { class: 32 }, &CALLED)?);
+    assert!(rt; calls_on_object(alloc, &CALL_VIRTUAL)?);
+    assert!(rt; calls_on_object(alloc, &CALL_SPECIAL)?);
     Ok(())
 }
 
@@ -703,14 +731,10 @@ const PRINT_REPLIES: [(Reply, Option<Op>); 4] = [
 #[test]
 fn replies(rt: HostRuntime) -> Result<(), Fail> {
     let alloc = rt.alloc();
-    let plain = main_alone(alloc, &ARRAY)?;
-    assert!(rt; plays(alloc, &plain, Op::NewArray { len: 3 }, &ARRAY_REPLIES)?);
-    let plain = main_alone(alloc, &WRITES)?;
-    assert!(rt; plays(alloc, &plain, Op::NewArray { len: 3 }, &WRITE_REPLIES)?);
-    let plain = main_alone(alloc, &PRINTS)?;
-    assert!(rt; plays(alloc, &plain, PRINT_NOTHING, &PRINT_REPLIES)?);
-    let plain = main_alone(alloc, &WAIT)?;
-    assert!(rt; plays(alloc, &plain, Op::New { class: 32 }, &WAIT_REPLIES)?);
+    assert!(rt; alone_plays(alloc, &ARRAY, Op::NewArray { len: 3 }, &ARRAY_REPLIES)?);
+    assert!(rt; alone_plays(alloc, &WRITES, Op::NewArray { len: 3 }, &WRITE_REPLIES)?);
+    assert!(rt; alone_plays(alloc, &PRINTS, PRINT_NOTHING, &PRINT_REPLIES)?);
+    assert!(rt; alone_plays(alloc, &WAIT, Op::New { class: 32 }, &WAIT_REPLIES)?);
     Ok(())
 }
 
