@@ -1,5 +1,6 @@
 -- Text constants, labels, and what is wrong with bodies.
 use Rattle.std.specs.Prelude.{ℕ, if◌then◌else◌, nat_le, List, [], ◌∷◌, ◌++◌, is_some, Option, Some, None, Result, Ok, Err}
+use Rattle.vm_model.specs.declared.limits.TheConstants.{MOST_INSTRUCTIONS}
 use Rattle.jasmin_reader.specs.declared.class_text.Operand.{Operand}
 use Rattle.jasmin_reader.specs.declared.class_text.Operand.TheVariants as operand
 use Rattle.jasmin_reader.specs.declared.class_text.CatchText.{CatchText}
@@ -54,7 +55,7 @@ with_all (c ∷ cs) t = with_all cs (with_bodies c.methods t)
 abbrev pub texts_of : List PlainClassText → PlainTexts
 texts_of classes = with_all classes no_texts
 
--- ---- labels, each with the number of the instruction behind it
+-- ---- labels, each with the number of the instruction after it
 
 unfoldable pub with_labels : List (List ℕ) → ℕ → Rows → Rows
 with_labels [] n rows = rows
@@ -79,7 +80,7 @@ fault_in (Err kind) = Some kind
 -- a method has at most 16,384 instructions
 abbrev pub line_judged : Names → ℕ → Rows → Rows → PlainLineText → ℕ → Option Refusal → Option Refusal
 line_judged names thread_run texts labels l n found =
-    noted (noted found l.line (fault_in (linked names thread_run texts labels l))) l.line (only_if TooMany (nat_le 16384 n) None)
+    noted (noted found l.line (fault_in (linked names thread_run texts labels l))) l.line (only_if TooMany (nat_le MOST_INSTRUCTIONS n) None)
 
 unfoldable pub code_judged : Names → ℕ → Rows → Rows → List PlainLineText → ℕ → Option Refusal → Option Refusal
 code_judged names thread_run texts labels [] n found = found

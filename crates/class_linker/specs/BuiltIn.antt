@@ -1,44 +1,13 @@
--- The built-in classes and their members.
+-- The members of the built-in classes.
 use Rattle.std.specs.Prelude.{ℕ, Bool, true, false, not, ◌&&◌, ◌||◌, if◌then◌else◌, ◌==◌, nat_le, List, [], ◌∷◌, codes, bytes_eq, Option, Some, None}
 use Rattle.vm_model.specs.declared.instr.Instr.{Instr}
 use Rattle.vm_model.specs.declared.instr.Instr.TheVariants as instr
-use Rattle.class_linker.specs.Index.{Rows}
-
--- the built-in classes and their numbers
-unfoldable pub built_in_classes : Rows
-built_in_classes =
-    (codes "java/lang/Object", 0) ∷
-    (codes "java/lang/Thread", 1) ∷
-    (codes "java/lang/Runnable", 2) ∷
-    (codes "java/lang/String", 3) ∷
-    (codes "java/io/PrintStream", 4) ∷
-    (codes "java/lang/Throwable", 5) ∷
-    (codes "java/lang/Exception", 6) ∷
-    (codes "java/lang/RuntimeException", 7) ∷
-    (codes "java/lang/Error", 8) ∷
-    (codes "java/lang/ArithmeticException", 9) ∷
-    (codes "java/lang/NullPointerException", 10) ∷
-    (codes "java/lang/IndexOutOfBoundsException", 11) ∷
-    (codes "java/lang/ArrayIndexOutOfBoundsException", 12) ∷
-    (codes "java/lang/NegativeArraySizeException", 13) ∷
-    (codes "java/lang/IllegalArgumentException", 14) ∷
-    (codes "java/lang/IllegalMonitorStateException", 15) ∷
-    (codes "java/lang/IllegalThreadStateException", 16) ∷
-    (codes "java/lang/IllegalStateException", 17) ∷
-    (codes "java/lang/InterruptedException", 18) ∷
-    (codes "java/lang/VirtualMachineError", 19) ∷
-    (codes "java/lang/StackOverflowError", 20) ∷
-    (codes "java/lang/OutOfMemoryError", 21) ∷
-    (codes "java/lang/AssertionError", 22) ∷
-    []
-
--- classes of which objects are made: not Runnable, String, PrintStream and VirtualMachineError
-abbrev pub has_objects : ℕ → Bool
-has_objects class = not (class == 2 || class == 3 || class == 4 || class == 19)
+use Rattle.built_in_classes.specs.declared.numbers.TheConstants.{PRINT_STREAM, STRING, THREAD}
+use Rattle.built_in_classes.specs.Classes.{has_constructor, has_text_constructor}
 
 -- classes whose objects have a lock: all but String and PrintStream
 abbrev pub has_lock : ℕ → Bool
-has_lock class = not (class == 3 || class == 4)
+has_lock class = not (class == STRING || class == PRINT_STREAM)
 
 -- ---- members, by their name with its descriptor
 
@@ -64,17 +33,11 @@ stream_member m =
     if bytes_eq m (codes "print(I)V") then Some (instr.PrintInt false) else
     if bytes_eq m (codes "print(Ljava/lang/String;)V") then Some (instr.PrintText false) else None
 
--- constructors: of Object, Thread and the throwables but VirtualMachineError; with a text of the throwables up to 21
-abbrev pub has_constructor : ℕ → Bool
-has_constructor class = class == 0 || class == 1 || (nat_le 5 class && nat_le class 22 && not (class == 19))
-
-abbrev pub has_text_constructor : ℕ → Bool
-has_text_constructor class = nat_le 5 class && nat_le class 21 && not (class == 19)
-
+-- constructors by their name with its descriptor; Thread has one more, that takes a Runnable
 abbrev pub constructor : ℕ → List ℕ → Option Instr
 constructor class m =
     if bytes_eq m (codes "<init>()V") && has_constructor class then Some (instr.Init class false) else
-    if bytes_eq m (codes "<init>(Ljava/lang/Runnable;)V") && class == 1 then Some instr.InitRunnable else
+    if bytes_eq m (codes "<init>(Ljava/lang/Runnable;)V") && class == THREAD then Some instr.InitRunnable else
     if bytes_eq m (codes "<init>(Ljava/lang/String;)V") && has_text_constructor class then Some (instr.Init class true) else None
 
 -- what may not be declared, since the built-in ones must be the only ones
@@ -95,7 +58,7 @@ abbrev pub of_thread : Bool → List ℕ → Option Instr
 of_thread is_thread m = if is_thread then thread_member m else None
 
 abbrev pub of_stream : ℕ → List ℕ → Option Instr
-of_stream class m = if class == 4 then stream_member m else None
+of_stream class m = if class == PRINT_STREAM then stream_member m else None
 
 abbrev pub instance_member : ℕ → Bool → List ℕ → Option Instr
 instance_member class is_thread m = first_some (of_lock class m) (first_some (of_thread is_thread m) (of_stream class m))

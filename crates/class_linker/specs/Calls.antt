@@ -2,6 +2,7 @@
 use Rattle.std.specs.Prelude.{ℕ, Bool, not, ◌&&◌, ◌||◌, if◌then◌else◌, ◌==◌, List, ◌++◌, codes, bytes_eq, is_some, Option, Some, None, Result, Ok, Err}
 use Rattle.vm_model.specs.declared.instr.Instr.{Instr}
 use Rattle.vm_model.specs.declared.instr.Instr.TheVariants as instr
+use Rattle.built_in_classes.specs.declared.numbers.TheConstants.{THREAD}
 use Rattle.class_linker.specs.declared.calls.Target.{Target}
 use Rattle.class_linker.specs.declared.fault.LinkKind.{LinkKind}
 use Rattle.class_linker.specs.declared.fault.LinkKind.TheVariants.{UnknownClass, UnknownField, UnknownMethod}
@@ -30,9 +31,9 @@ static_call names t None = if is_some (value_of t.word names.instance_methods) t
 abbrev pub is_run : Target → Bool
 is_run t = bytes_eq t.member (codes "run()V") && t.is_thread
 
--- the method that Thread itself has, added behind all others; through Thread the object's class decides
+-- the method that Thread itself has, added after all others; through Thread the object's class decides
 abbrev pub virtual_run : ℕ → Target → Instr
-virtual_run thread_run t = if t.class == 1 then instr.RunOf 1 else instr.InvokeVirtual thread_run
+virtual_run thread_run t = if t.class == THREAD then instr.RunOf THREAD else instr.InvokeVirtual thread_run
 
 abbrev pub virtual_member : ℕ → Target → Option Instr
 virtual_member thread_run t = if is_run t then Some (virtual_run thread_run t) else instance_member t.class t.is_thread t.member

@@ -6,7 +6,7 @@ use Rattle.vm_model.specs.declared.value.Kind.TheVariants as kind
 use Rattle.class_linker.specs.declared.descriptors.Typed.{Typed}
 use Rattle.class_linker.specs.declared.descriptors.Typed.TheVariants as typed
 use Rattle.class_linker.specs.Index.{Rows, value_of}
-use Rattle.class_linker.specs.BuiltIn.{built_in_classes}
+use Rattle.built_in_classes.specs.Classes.{built_in_number}
 use Rattle.jasmin_reader.specs.Words.{is_class_name}
 
 -- ---- classes
@@ -17,7 +17,7 @@ or_user classes name None = value_of name classes
 
 -- the number of a class, built in or of the text
 abbrev pub class_of : Rows → List ℕ → Option ℕ
-class_of classes name = or_user classes name (value_of name built_in_classes)
+class_of classes name = or_user classes name (built_in_number name)
 
 -- ---- one type
 
@@ -43,7 +43,7 @@ array_of _ = typed.Outside
 abbrev pub is_foreign : ℕ → Bool
 is_foreign b = b == 90 || b == 66 || b == 67 || b == 83 || b == 74 || b == 70 || b == 68
 
--- a type that is no array, at the front of these bytes, and the bytes behind it
+-- a type that is no array, at the front of these bytes, and the bytes after it
 abbrev pub base_at : Rows → List ℕ → Typed × List ℕ
 base_at classes [] = (typed.Bad, [])
 base_at classes (b ∷ rest) =
@@ -58,7 +58,7 @@ nested n t = if n == 0 then t else if n == 1 then array_of t else array_of (arra
 abbrev pub dimensions : List ℕ → ℕ
 dimensions bytes = unwrap_or (position (λ b. not (b == 91)) bytes) (length bytes)
 
--- the type at the front of these bytes, and the bytes behind it
+-- the type at the front of these bytes, and the bytes after it
 unfoldable pub type_at : Rows → List ℕ → Typed × List ℕ
 type_at classes bytes =
     (nested (dimensions bytes) (base_at classes (drop (dimensions bytes) bytes)).0, (base_at classes (drop (dimensions bytes) bytes)).1)
@@ -83,7 +83,7 @@ abbrev pub whole : Typed × List ℕ → Typed
 whole (t, []) = t
 whole (t, b ∷ rest) = typed.Bad
 
--- one type and nothing behind it
+-- one type and nothing after it
 abbrev pub type_of : Rows → List ℕ → Typed
 type_of classes bytes = whole (type_at classes bytes)
 
@@ -97,7 +97,7 @@ pub record PlainSignature : Type 0 where
 abbrev pub given : Rows → List ℕ → Option Typed
 given classes bytes = if bytes_eq bytes (codes "V") then None else Some (type_of classes bytes)
 
--- the bytes between the brackets, and those behind
+-- the bytes between the brackets, and those after
 abbrev pub parts_at : List ℕ → Option ℕ → List ℕ × List ℕ
 parts_at bytes None = (drop 1 bytes, [])
 parts_at bytes (Some n) = (drop 1 (take n bytes), drop (n + 1) bytes)

@@ -1,6 +1,7 @@
 -- What is wrong with declarations: of each line the least fault, and of all lines the first.
 use Rattle.std.specs.Prelude.{ℕ, ◌+◌, Bool, true, false, not, ◌&&◌, ◌||◌, if◌then◌else◌, ◌==◌, nat_le, nat_lt, List, [], ◌∷◌, ◌++◌, length, codes, bytes_eq, is_some, Option, Some, None}
 use Rattle.std.specs.List.{list_any}
+use Rattle.vm_model.specs.declared.limits.TheConstants.{FIRST_USER_CLASS, MOST_CLASSES, MOST_FIELDS, MOST_LOCALS, MOST_METHODS, MOST_OPERANDS, MOST_PARAMETERS, MOST_STATICS}
 use Rattle.vm_model.specs.declared.value.Kind.TheVariants as kind
 use Rattle.jasmin_reader.specs.declared.class_text.NameAt.{NameAt}
 use Rattle.jasmin_reader.specs.Plain.{PlainClassText, PlainFieldText, PlainMethodText}
@@ -14,7 +15,8 @@ use Rattle.class_linker.specs.declared.names.Names.{Names}
 use Rattle.class_linker.specs.Faults.{noted, only_if}
 use Rattle.class_linker.specs.Index.{value_of}
 use Rattle.class_linker.specs.Words.{has_foreign_flag, field_word, method_key}
-use Rattle.class_linker.specs.BuiltIn.{built_in_classes, is_reserved}
+use Rattle.built_in_classes.specs.Classes.{built_in_number}
+use Rattle.class_linker.specs.BuiltIn.{is_reserved}
 use Rattle.class_linker.specs.Descriptors.{PlainSignature, type_of, method_signature, in_signature, is_unknown, is_bad, is_outside}
 use Rattle.class_linker.specs.Names.{is_named, is_thread, is_static, class_begun, field_counted, method_counted, counted_if}
 
@@ -26,8 +28,8 @@ is_this n (Some m) = m == n
 
 abbrev pub named_fault : Names → PlainClassText → Counts → Option LinkKind
 named_fault names c n =
-    only_if Twice (not (is_this n.classes (value_of c.name names.classes)) || is_some (value_of c.name built_in_classes))
-    (only_if TooMany (nat_le 288 n.classes)
+    only_if Twice (not (is_this n.classes (value_of c.name names.classes)) || is_some (built_in_number c.name))
+    (only_if TooMany (nat_le (FIRST_USER_CLASS + MOST_CLASSES) n.classes)
     (only_if OutOfProfile (has_foreign_flag c.flags) None))
 
 -- an interface is out of the profile
@@ -80,7 +82,7 @@ abbrev pub gives_wrong : PlainMethodText → PlainSignature → Bool
 gives_wrong m s = in_signature is_bad s || (is_init m.name && is_some s.gives)
 
 abbrev pub has_too_many : PlainMethodText → PlainSignature → Counts → Bool
-has_too_many m s n = nat_le 1024 n.methods || nat_lt 16 (length s.params) || above 1024 m.stack || above 256 m.locals
+has_too_many m s n = nat_le MOST_METHODS n.methods || nat_lt MOST_PARAMETERS (length s.params) || above MOST_OPERANDS m.stack || above MOST_LOCALS m.locals
 
 abbrev pub is_reserved_method : PlainMethodText → Bool
 is_reserved_method m = is_reserved (m.name ++ m.desc)
@@ -111,7 +113,7 @@ abbrev pub taken : PlainClassText → ℕ
 taken c = if is_thread c then 1 else 0
 
 abbrev pub is_full : ℕ → PlainFieldText → Counts → Bool
-is_full taken f n = if is_static f.flags then nat_le 1024 n.statics else nat_le (64 + taken) n.places
+is_full taken f n = if is_static f.flags then nat_le MOST_STATICS n.statics else nat_le (MOST_FIELDS + taken) n.places
 
 unfoldable pub fields_judged : Names → List ℕ → ℕ → List PlainFieldText → Counts → Option Refusal → Counts × Option Refusal
 fields_judged names class taken [] n found = (n, found)

@@ -1,5 +1,6 @@
 -- Instructions with numbers in place of names.
 use Rattle.std.specs.Prelude.{ℕ, Bool, ◌||◌, if◌then◌else◌, nat_lt, List, [], ◌∷◌, length, codes, bytes_eq, is_some, ℤ, unsigned_abs, Option, Some, None, Result, Ok, Err}
+use Rattle.vm_model.specs.declared.limits.TheConstants.{MOST_TEXT_CONSTANT_BYTES}
 use Rattle.vm_model.specs.declared.instr.Instr.{Instr}
 use Rattle.vm_model.specs.declared.instr.Instr.TheVariants as instr
 use Rattle.jasmin_reader.specs.declared.class_text.Operand.{Operand}
@@ -10,7 +11,7 @@ use Rattle.class_linker.specs.declared.fault.LinkKind.TheVariants.{UnknownClass,
 use Rattle.class_linker.specs.declared.names.Names.{Names}
 use Rattle.class_linker.specs.Lines.{◌>>=◌, or_fault}
 use Rattle.class_linker.specs.Index.{Rows, value_of}
-use Rattle.class_linker.specs.BuiltIn.{has_objects}
+use Rattle.built_in_classes.specs.Classes.{has_objects}
 use Rattle.class_linker.specs.Descriptors.{class_of}
 use Rattle.class_linker.specs.Calls.{call, field}
 
@@ -105,7 +106,7 @@ numbered word n =
 
 -- a text constant has at most 200 bytes
 unfoldable pub texted : Rows → List ℕ → Result Instr LinkKind
-texted texts text = if nat_lt 200 (length text) then Err TooMany else (or_fault OutOfProfile (value_of text texts) >>= λ n. Ok (instr.PushText n))
+texted texts text = if nat_lt MOST_TEXT_CONSTANT_BYTES (length text) then Err TooMany else (or_fault OutOfProfile (value_of text texts) >>= λ n. Ok (instr.PushText n))
 
 unfoldable pub made : Names → List ℕ → Result Instr LinkKind
 made names class = or_fault UnknownClass (class_of names.classes class) >>= λ n. if has_objects n then Ok (instr.New n) else Err OutOfProfile

@@ -1,5 +1,6 @@
 -- The linked program of classes, or their first fault.
 use Rattle.std.specs.Prelude.{◌≡◌, ℕ, List, [], ◌∷◌, ◌++◌, map, Option, Some, None, Result, Ok, Err}
+use Rattle.vm_model.specs.declared.limits.TheConstants.{FIRST_USER_CLASS}
 use Rattle.vm_model.specs.Program.{PlainProgram}
 use Rattle.jasmin_reader.specs.Plain.{PlainClassText}
 use Rattle.class_linker.specs.declared.fault.LinkKind.TheVariants.{NoMain}
@@ -24,8 +25,8 @@ main_of (Some n) = Ok n
 abbrev pub program_of : Names → ℕ → PlainTexts → ℕ → List PlainClassText → PlainProgram
 program_of names thread_run texts main classes = record {
   classes = map (linked_class names) classes;
-  methods = methods_of names thread_run texts.rows 32 classes ++ thread_method ∷ [];
-  statics = slots_of names 32 classes;
+  methods = methods_of names thread_run texts.rows FIRST_USER_CLASS classes ++ thread_method ∷ [];
+  statics = slots_of names FIRST_USER_CLASS classes;
   texts = texts.names;
   main = main;
 }

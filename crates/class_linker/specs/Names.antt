@@ -1,5 +1,6 @@
 -- The names that classes declare, with their numbers. Each line adds its own; a name that is there keeps its number.
 use Rattle.std.specs.Prelude.{ℕ, ◌+◌, Bool, not, ◌&&◌, if◌then◌else◌, ◌==◌, nat_lt, List, [], ◌∷◌, length, codes, bytes_eq, Option, Some, None}
+use Rattle.vm_model.specs.declared.limits.TheConstants.{FIRST_USER_CLASS}
 use Rattle.jasmin_reader.specs.Plain.{PlainClassText, PlainFieldText, PlainMethodText}
 use Rattle.class_linker.specs.declared.names.Counts.{Counts}
 use Rattle.class_linker.specs.declared.names.Names.{Names}
@@ -10,9 +11,9 @@ use Rattle.class_linker.specs.Words.{has, method_key, field_word, field_key}
 abbrev pub next : ℕ → ℕ
 next n = if nat_lt n 2147483647 then n + 1 else n
 
--- user classes are numbered from 32
+-- user classes have the numbers after those of the built-in ones
 abbrev pub no_counts : Counts
-no_counts = record { classes = 32; statics = 0; methods = 0; fields = 0; places = 0 }
+no_counts = record { classes = FIRST_USER_CLASS; statics = 0; methods = 0; fields = 0; places = 0 }
 
 -- an object of a class of threads has its Runnable target at place 0
 abbrev pub is_thread : PlainClassText → Bool

@@ -9,6 +9,7 @@ use Rattle.vm_model.specs.declared.value.Kind.{Kind}
 use Rattle.vm_model.specs.declared.value.Kind.TheVariants as kind
 use Rattle.vm_model.specs.declared.value.Value.{Value}
 use Rattle.vm_model.specs.declared.value.Value.TheVariants as value
+use Rattle.built_in_classes.specs.declared.numbers.TheConstants.{RUNNABLE, THREAD}
 use Rattle.jasmin_reader.specs.Plain.{PlainClassText, PlainFieldText, PlainMethodText, PlainLineText}
 use Rattle.class_linker.specs.declared.fault.LinkKind.{LinkKind}
 use Rattle.class_linker.specs.declared.names.Names.{Names}
@@ -24,7 +25,7 @@ use Rattle.class_linker.specs.Bodies.{labels_of}
 abbrev pub field_kind : Names → PlainFieldText → Kind
 field_kind names f = kind_of (type_of names.classes f.desc)
 
--- what a static holds at the start: the int that the text says, 0, or null
+-- what a static holds at the beginning: the int that the text says, 0, or null
 abbrev pub start_of : Kind → Option ℤ → Value
 start_of kind.Int start = value.Int (unwrap_or start (pos 0))
 start_of kind.Null start = value.Null
@@ -102,11 +103,11 @@ methods_of names thread_run texts n (c ∷ cs) = methods_in names thread_run tex
 -- Thread's own run calls that of its target, if it has one (class library, `Thread.run`)
 abbrev pub thread_code : List Instr
 thread_code =
-    instr.Aload 0 ∷ instr.GetField 1 0 ∷ instr.Astore 1 ∷ instr.Aload 1 ∷ instr.Ifnull 7 ∷ instr.Aload 1 ∷ instr.RunOf 2 ∷ instr.Return ∷ []
+    instr.Aload 0 ∷ instr.GetField THREAD 0 ∷ instr.Astore 1 ∷ instr.Aload 1 ∷ instr.Ifnull 7 ∷ instr.Aload 1 ∷ instr.RunOf RUNNABLE ∷ instr.Return ∷ []
 
 abbrev pub thread_method : PlainMethod
 thread_method = record {
-  class = 1;
+  class = THREAD;
   name = codes "run";
   params = [];
   gives = None;

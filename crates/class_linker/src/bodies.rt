@@ -11,7 +11,7 @@ use crate::names::{Names, next};
 use jasmin_reader::{CatchText, ClassText, LineText, MethodText, Operand};
 use std::alloc::Global;
 use std::marker::Model;
-use vm_model::{Instr, Name, NoMemory};
+use vm_model::{Instr, MOST_INSTRUCTIONS, Name, NoMemory};
 
 /// Text constants, each once, in the order of the text.
 #[derive(Drop)]
@@ -162,7 +162,7 @@ fn add_labelled(alloc: Global, lines: &[LineText], rows: &mut Index) -> Result<u
     Ok(place)
 }
 
-/// The labels of a method, each with the number of the instruction behind it.
+/// The labels of a method, each with the number of the instruction after it.
 pub fn labels_of(alloc: Global, method: &MethodText) -> Result<Index, NoMemory>
     ensures { IfOk result (λ rows. rows ≡ spec.labels_of method.now) }
 {
@@ -205,7 +205,7 @@ fn judge_line(
 {
     let fault = fault_of(alloc, names, thread_run, texts, labels, line)?;
     let found = noted(found, line.line, fault);
-    let many = only_if(LinkKind::TooMany, place >= 16384, None);
+    let many = only_if(LinkKind::TooMany, place >= MOST_INSTRUCTIONS, None);
     Ok(noted(found, line.line, many))
 }
 

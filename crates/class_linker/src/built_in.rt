@@ -1,68 +1,15 @@
-// The built-in classes and their members.
+// The members of the built-in classes.
 ghost use Rattle.std.specs.Prelude.{◌≡◌};
 ghost use Rattle.class_linker.specs.BuiltIn as spec;
-ghost use Rattle.class_linker.specs.Index.{value_of};
-ghost use Rattle.class_linker.specs.Tables.{rows_of};
 
 use crate::words::is;
+use built_in_classes::{PRINT_STREAM, STRING, THREAD, has_constructor, has_text_constructor};
 use vm_model::Instr;
-
-const BUILT_IN_CLASSES: [(&[u8], u32); 23] = [
-    (b"java/lang/Object", 0),
-    (b"java/lang/Thread", 1),
-    (b"java/lang/Runnable", 2),
-    (b"java/lang/String", 3),
-    (b"java/io/PrintStream", 4),
-    (b"java/lang/Throwable", 5),
-    (b"java/lang/Exception", 6),
-    (b"java/lang/RuntimeException", 7),
-    (b"java/lang/Error", 8),
-    (b"java/lang/ArithmeticException", 9),
-    (b"java/lang/NullPointerException", 10),
-    (b"java/lang/IndexOutOfBoundsException", 11),
-    (b"java/lang/ArrayIndexOutOfBoundsException", 12),
-    (b"java/lang/NegativeArraySizeException", 13),
-    (b"java/lang/IllegalArgumentException", 14),
-    (b"java/lang/IllegalMonitorStateException", 15),
-    (b"java/lang/IllegalThreadStateException", 16),
-    (b"java/lang/IllegalStateException", 17),
-    (b"java/lang/InterruptedException", 18),
-    (b"java/lang/VirtualMachineError", 19),
-    (b"java/lang/StackOverflowError", 20),
-    (b"java/lang/OutOfMemoryError", 21),
-    (b"java/lang/AssertionError", 22),
-];
-
-fn value_in(rows: &[(&[u8], u32)], key: &[u8]) -> Option<u32>
-    ensures { result ≡ value_of key.now (rows_of rows.now) }
-{
-    let mut rest = rows;
-    while let [row, after @ ..] = rest {
-        if is(key, row.0) {
-            return Some(row.1);
-        }
-        rest = after;
-    }
-    None
-}
-
-/// The number of a built-in class.
-pub fn built_in_class(name: &[u8]) -> Option<u32>
-    ensures { result ≡ value_of name.now spec.built_in_classes }
-{
-    value_in(&BUILT_IN_CLASSES, name)
-}
-
-pub fn has_objects(class: u32) -> bool
-    ensures { result ≡ spec.has_objects class }
-{
-    !(class == 2 || class == 3 || class == 4 || class == 19)
-}
 
 fn has_lock(class: u32) -> bool
     ensures { result ≡ spec.has_lock class }
 {
-    !(class == 3 || class == 4)
+    !(class == STRING || class == PRINT_STREAM)
 }
 
 fn lock_member(member: &[u8]) -> Option<Instr>
@@ -109,25 +56,13 @@ fn stream_member(member: &[u8]) -> Option<Instr>
     }
 }
 
-fn has_constructor(class: u32) -> bool
-    ensures { result ≡ spec.has_constructor class }
-{
-    class == 0 || class == 1 || (5 <= class && class <= 22 && class != 19)
-}
-
-fn has_text_constructor(class: u32) -> bool
-    ensures { result ≡ spec.has_text_constructor class }
-{
-    5 <= class && class <= 21 && class != 19
-}
-
 /// A built-in constructor of a class.
 pub fn constructor(class: u32, member: &[u8]) -> Option<Instr>
     ensures { result ≡ spec.constructor class member.now }
 {
     if is(member, b"<init>()V") && has_constructor(class) {
         Some(Instr::Init { class, text: false })
-    } else if is(member, b"<init>(Ljava/lang/Runnable;)V") && class == 1 {
+    } else if is(member, b"<init>(Ljava/lang/Runnable;)V") && class == THREAD {
         Some(Instr::InitRunnable)
     } else if is(member, b"<init>(Ljava/lang/String;)V") && has_text_constructor(class) {
         Some(Instr::Init { class, text: true })
@@ -171,7 +106,7 @@ fn of_thread(is_thread: bool, member: &[u8]) -> Option<Instr>
 fn of_stream(class: u32, member: &[u8]) -> Option<Instr>
     ensures { result ≡ spec.of_stream class member.now }
 {
-    if class == 4 {
+    if class == PRINT_STREAM {
         stream_member(member)
     } else {
         None

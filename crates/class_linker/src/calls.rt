@@ -12,6 +12,7 @@ use crate::descriptors::{class_of, is_unknown, method_signature, type_of};
 use crate::fault::{LineError, LinkKind};
 use crate::names::Names;
 use crate::words::{described, field_key, is, member};
+use built_in_classes::THREAD;
 use std::alloc::Global;
 use vm_model::{Instr, Name};
 
@@ -65,8 +66,8 @@ fn is_run(target: &Target) -> bool
 fn virtual_run(thread_run: u32, target: &Target) -> Instr
     ensures { result ≡ spec.virtual_run thread_run target.now }
 {
-    if target.class == 1 {
-        Instr::RunOf(1)
+    if target.class == THREAD {
+        Instr::RunOf(THREAD)
     } else {
         Instr::InvokeVirtual(thread_run)
     }

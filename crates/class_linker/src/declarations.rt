@@ -5,7 +5,7 @@ ghost use Rattle.class_linker.specs.Index.{value_of};
 ghost use Rattle.class_linker.specs.Judging as spec;
 ghost use Rattle.class_linker.specs.Words.{field_word, method_key};
 
-use crate::built_in::{built_in_class, is_reserved};
+use crate::built_in::is_reserved;
 use crate::descriptors::{
     Signature, Typed, is_bad, is_outside, is_unknown, method_signature, type_of,
 };
@@ -13,9 +13,13 @@ use crate::fault::{LinkKind, Refusal};
 use crate::least::{noted, only_if};
 use crate::names::{Counts, Names, is_named, is_static};
 use crate::words::{field_word, has_foreign_flag, is, method_key};
+use built_in_classes::built_in_number;
 use jasmin_reader::{ClassText, FieldText, MethodText, NameAt};
 use std::alloc::Global;
-use vm_model::{Kind, NoMemory};
+use vm_model::{
+    FIRST_USER_CLASS, Kind, MOST_CLASSES, MOST_FIELDS, MOST_LOCALS, MOST_METHODS, MOST_OPERANDS,
+    MOST_PARAMETERS, MOST_STATICS, NoMemory,
+};
 
 fn is_this(number: u32, found: Option<u32>) -> bool
     ensures { result ≡ spec.is_this number found }
@@ -33,10 +37,14 @@ fn named_fault(names: &Names, class: &ClassText, counts: Counts) -> Option<LinkK
 {
     let name = class.name.bytes();
     let is_first = is_this(counts.classes, names.classes.find(name));
-    let is_twice = !is_first || built_in_class(name).is_some();
+    let is_twice = !is_first || built_in_number(name).is_some();
     let is_foreign = has_foreign_flag(&class.flags);
     let foreign = only_if(LinkKind::OutOfProfile, is_foreign, None);
-    let many = only_if(LinkKind::TooMany, counts.classes >= 288, foreign);
+    let many = only_if(
+        LinkKind::TooMany,
+        counts.classes >= FIRST_USER_CLASS + MOST_CLASSES,
+        foreign,
+    );
     only_if(LinkKind::Twice, is_twice, many)
 }
 
@@ -103,9 +111,9 @@ fn is_full(taken: u32, field: &FieldText, counts: Counts) -> bool
     ensures { result ≡ spec.is_full taken field.now counts }
 {
     if is_static(&field.flags) {
-        counts.statics >= 1024
+        counts.statics >= MOST_STATICS
     } else {
-        counts.places >= 64 + taken
+        counts.places >= MOST_FIELDS + taken
     }
 }
 
@@ -157,10 +165,10 @@ fn gives_wrong(method: &MethodText, signature: &Signature) -> bool
 fn has_too_many(method: &MethodText, signature: &Signature, counts: Counts) -> bool
     ensures { result ≡ spec.has_too_many method.now signature.now counts }
 {
-    counts.methods >= 1024
-        || signature.params.len() > 16
-        || above(1024, method.stack)
-        || above(256, method.locals)
+    counts.methods >= MOST_METHODS
+        || signature.params.len() > MOST_PARAMETERS
+        || above(MOST_OPERANDS, method.stack)
+        || above(MOST_LOCALS, method.locals)
 }
 
 fn is_reserved_method(alloc: Global, method: &MethodText) -> Result<bool, NoMemory>

@@ -3,9 +3,9 @@ ghost use Rattle.std.specs.Prelude.{◌≡◌, ◌==◌, ◌≤◌, not, length,
 ghost use Rattle.std.specs.List.{list_any, position_or_len};
 ghost use Rattle.class_linker.specs.Descriptors as spec;
 
-use crate::built_in::built_in_class;
 use crate::index::Index;
 use crate::words::is;
+use built_in_classes::built_in_number;
 use jasmin_reader::is_class_name;
 use std::alloc::Global;
 use std::marker::Model;
@@ -42,7 +42,7 @@ impl Model for Signature {
 pub fn class_of(classes: &Index, name: &[u8]) -> Option<u32>
     ensures { result ≡ spec.class_of classes.now name.now }
 {
-    match built_in_class(name) {
+    match built_in_number(name) {
         Some(number) => Some(number),
         None => classes.find(name),
     }
@@ -82,7 +82,7 @@ fn is_foreign(b: u8) -> bool
     b == b'Z' || b == b'B' || b == b'C' || b == b'S' || b == b'J' || b == b'F' || b == b'D'
 }
 
-/// A type that is no array, and the bytes behind it.
+/// A type that is no array, and the bytes after it.
 fn base_at<'a>(classes: &Index, bytes: &'a [u8]) -> (Typed, &'a [u8])
     ensures { (result.0, result.1.now) ≡ spec.base_at classes.now bytes.now }
 {
@@ -145,7 +145,7 @@ fn dimensions(bytes: &[u8]) -> usize
     }
 }
 
-/// The type at the front, and the bytes behind it.
+/// The type at the front, and the bytes after it.
 #[tactic(auto, unfolding(crate::specs::Descriptors::type_at))]
 fn type_at<'a>(classes: &Index, bytes: &'a [u8]) -> (Typed, &'a [u8])
     ensures { (result.0, result.1.now) ≡ spec.type_at classes.now bytes.now }
@@ -197,7 +197,7 @@ fn types_in(alloc: Global, classes: &Index, bytes: &[u8]) -> Result<Vec<Typed>, 
     Ok(types)
 }
 
-/// One type and nothing behind it.
+/// One type and nothing after it.
 pub fn type_of(classes: &Index, bytes: &[u8]) -> Typed
     ensures { result ≡ spec.type_of classes.now bytes.now }
 {
@@ -233,7 +233,7 @@ fn behind_first(bytes: &[u8]) -> &[u8]
     }
 }
 
-/// The bytes between the brackets, and those behind.
+/// The bytes between the brackets, and those after.
 fn parts_of(bytes: &[u8]) -> (&[u8], &[u8])
     ensures { (result.0.now, result.1.now) ≡ spec.parts_of bytes.now }
 {

@@ -6,16 +6,17 @@ ghost use Rattle.class_linker.specs.declared.fault.LinkKind.TheVariants.{OutOfPr
 ghost use Rattle.class_linker.specs.Linked as spec;
 ghost use Rattle.class_linker.specs.Tables.{instr_rows};
 
-use crate::built_in::{first_some, has_objects};
+use crate::built_in::first_some;
 use crate::calls::{call, field};
 use crate::descriptors::class_of;
 use crate::fault::{LineError, LinkKind};
 use crate::index::Index;
 use crate::names::Names;
 use crate::words::is;
+use built_in_classes::has_objects;
 use jasmin_reader::{LineText, Operand};
 use std::alloc::Global;
-use vm_model::Instr;
+use vm_model::{Instr, MOST_TEXT_CONSTANT_BYTES};
 
 const ALONE: [(&[u8], Instr); 30] = [
     (b"nop", Instr::Nop),
@@ -174,7 +175,7 @@ fn numbered(word: &[u8], n: i32) -> Result<Instr, LineError>
 fn texted(texts: &Index, text: &[u8]) -> Result<Instr, LineError>
     ensures { Gives (λ x. x) result (spec.texted texts.now text.now) }
 {
-    if text.len() > 200 {
+    if text.len() > MOST_TEXT_CONSTANT_BYTES {
         return Err(LineError::Kind(LinkKind::TooMany));
     }
     match texts.find(text) {

@@ -13,8 +13,6 @@ mod least;
 mod linking;
 mod names;
 mod program;
-#[cfg(test)]
-mod tests;
 mod words;
 
 pub use fault::{LinkFault, LinkKind};

@@ -88,7 +88,7 @@ fn linked_with(
 
 /// The linked program of classes.
 ///
-/// Names become numbers: classes, fields, methods, text constants and labels, each in the order of the text. Behind the methods
+/// Names become numbers: classes, fields, methods, text constants and labels, each in the order of the text. After the methods
 /// of the text comes that of `java/lang/Thread` itself, its `run`. What each name may stand for, and the limits, are in
 /// docs/TEXT.md.
 ///

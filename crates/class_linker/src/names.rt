@@ -8,7 +8,7 @@ use crate::words::{field_key, field_word, has, is, method_key};
 use jasmin_reader::{ClassText, FieldText, MethodText};
 use std::alloc::Global;
 use std::marker::Model;
-use vm_model::{Name, NoMemory};
+use vm_model::{FIRST_USER_CLASS, Name, NoMemory};
 
 /// The numbers of the next class, static field, method and field of the text, and the place of the next field in an object of the
 /// class. User classes are numbered from 32.
@@ -83,7 +83,7 @@ impl Counts {
         ensures { result ≡ spec.no_counts }
     {
         Counts {
-            classes: 32,
+            classes: FIRST_USER_CLASS,
             statics: 0,
             methods: 0,
             fields: 0,
@@ -101,7 +101,7 @@ impl Counts {
         }
     }
 
-    /// Behind a field.
+    /// After a field.
     pub fn field_counted(self, field: &FieldText) -> Counts
         ensures { result ≡ spec.field_counted field.now self }
     {
@@ -120,7 +120,7 @@ impl Counts {
         }
     }
 
-    /// Behind a method.
+    /// After a method.
     pub fn method_counted(self) -> Counts
         ensures { result ≡ spec.method_counted self }
     {
@@ -130,7 +130,7 @@ impl Counts {
         }
     }
 
-    /// Behind a class, where it is one.
+    /// After a class, where it is one.
     pub fn counted_if(self, is_one: bool) -> Counts
         ensures { result ≡ spec.counted_if is_one self }
     {

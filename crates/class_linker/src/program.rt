@@ -11,9 +11,12 @@ use crate::index::Index;
 use crate::instructions::linked;
 use crate::names::{Names, is_static, is_thread, next};
 use crate::words::{has, method_key};
+use built_in_classes::{RUNNABLE, THREAD};
 use jasmin_reader::{ClassText, FieldText, LineText, MethodText};
 use std::alloc::Global;
-use vm_model::{Class, Field, Instr, Kind, Method, Name, NoMemory, StaticSlot, Value};
+use vm_model::{
+    Class, FIRST_USER_CLASS, Field, Instr, Kind, Method, Name, NoMemory, StaticSlot, Value,
+};
 
 // ---- fields
 
@@ -23,7 +26,7 @@ fn field_kind(names: &Names, field: &FieldText) -> Kind
     kind_of(type_of(&names.classes, field.desc.bytes()))
 }
 
-/// What a static holds at the start: the int that the text says, 0, or null.
+/// What a static holds at the beginning: the int that the text says, 0, or null.
 fn start_of(kind: Kind, start: Option<i32>) -> Value
     ensures { result ≡ spec.start_of kind start }
 {
@@ -80,9 +83,9 @@ fn add_slots(
     classes: &[ClassText],
     slots: &mut Vec<StaticSlot>,
 ) -> Result<(), NoMemory>
-    ensures { OnOk result (slots.new.items ≡ slots.old.items ++ spec.slots_of names.now 32 classes.now) }
+    ensures { OnOk result (slots.new.items ≡ slots.old.items ++ spec.slots_of names.now FIRST_USER_CLASS classes.now) }
 {
-    let mut number = 32;
+    let mut number = FIRST_USER_CLASS;
     let mut rest = classes;
     while let [class, after @ ..] = rest {
         add_slots_in(alloc, names, number, &class.fields, slots)?;
@@ -98,7 +101,7 @@ pub fn slots_of(
     names: &Names,
     classes: &[ClassText],
 ) -> Result<Vec<StaticSlot>, NoMemory>
-    ensures { IfOk result (λ v. v.items ≡ spec.slots_of names.now 32 classes.now) }
+    ensures { IfOk result (λ v. v.items ≡ spec.slots_of names.now FIRST_USER_CLASS classes.now) }
 {
     let mut slots = Vec::new(alloc);
     add_slots(alloc, names, classes, &mut slots)?;
@@ -266,9 +269,9 @@ fn add_methods(
     classes: &[ClassText],
     found: &mut Vec<Method>,
 ) -> Result<(), NoMemory>
-    ensures { OnOk result (found.new.items ≡ found.old.items ++ spec.methods_of names.now thread_run texts.now 32 classes.now) }
+    ensures { OnOk result (found.new.items ≡ found.old.items ++ spec.methods_of names.now thread_run texts.now FIRST_USER_CLASS classes.now) }
 {
-    let mut number = 32;
+    let mut number = FIRST_USER_CLASS;
     let mut rest = classes;
     while let [class, after @ ..] = rest {
         add_methods_in(
@@ -293,12 +296,15 @@ fn thread_code(alloc: Global) -> Result<Vec<Instr>, NoMemory>
         alloc,
         &[
             Instr::Aload(0),
-            Instr::GetField { class: 1, place: 0 },
+            Instr::GetField {
+                class: THREAD,
+                place: 0,
+            },
             Instr::Astore(1),
             Instr::Aload(1),
             Instr::Ifnull(7),
             Instr::Aload(1),
-            Instr::RunOf(2),
+            Instr::RunOf(RUNNABLE),
             Instr::Return,
         ],
     )?)
@@ -309,7 +315,7 @@ fn thread_method(alloc: Global) -> Result<Method, NoMemory>
     ensures { IfOk result (λ m. m ≡ spec.thread_method) }
 {
     Ok(Method {
-        class: 1,
+        class: THREAD,
         name: Name::of(alloc, b"run")?,
         params: Vec::new(alloc),
         gives: None,
@@ -321,7 +327,7 @@ fn thread_method(alloc: Global) -> Result<Method, NoMemory>
     })
 }
 
-/// The methods of all classes, and Thread's own run behind them.
+/// The methods of all classes, and Thread's own run after them.
 pub fn methods_of(
     alloc: Global,
     names: &Names,
@@ -329,7 +335,7 @@ pub fn methods_of(
     texts: &Index,
     classes: &[ClassText],
 ) -> Result<Vec<Method>, NoMemory>
-    ensures { IfOk result (λ v. v.items ≡ spec.methods_of names.now thread_run texts.now 32 classes.now ++ spec.thread_method ∷ []) }
+    ensures { IfOk result (λ v. v.items ≡ spec.methods_of names.now thread_run texts.now FIRST_USER_CLASS classes.now ++ spec.thread_method ∷ []) }
 {
     let mut found = Vec::new(alloc);
     add_methods(alloc, names, thread_run, texts, classes, &mut found)?;

@@ -8,7 +8,7 @@ use std::io;
 use std::process::ExitCode;
 use tool_io::{DiskFolder, OutSink};
 
-/// The words behind the program's name. Where one isn't UTF-8 there are none, and those are of no command.
+/// The words after the program's name. Where one isn't UTF-8 there are none, and those are of no command.
 fn words<R: Env + Alloc<A = Global>>(rt: &R) -> Result<Vec<String>, Status> {
     match env::args(rt) {
         Ok(args) => match args.skip(1).collect(rt.alloc()) {
@@ -23,6 +23,7 @@ fn words<R: Env + Alloc<A = Global>>(rt: &R) -> Result<Vec<String>, Status> {
 fn main(rt: HostRuntime) -> ExitCode {
     let status = match words(&rt) {
         Ok(words) => dejavu(
+            &rt,
             rt.alloc(),
             &words,
             &mut DiskFolder::new(&rt),

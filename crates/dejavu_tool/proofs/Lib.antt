@@ -5,3 +5,4 @@ pub mod Completing
 pub mod Repeating
 pub mod Linked
 pub mod Telling
+pub mod Earlier

@@ -1,7 +1,7 @@
 -- What a text's linked program keeps.
 use Rattle.std.proofs.Common.{◌≡◌, ℕ, ◌≤◌, Bool, true, false, List, length, Result, Ok, Err, None, refl}
 use Rattle.std.specs.Prelude.{nat_lt, if◌then◌else◌}
-use Rattle.vm_model.specs.Plain.{IsLinked}
+use Rattle.vm_model.specs.Plain.{IsWithinBounds}
 use Rattle.vm_model.specs.Program.{PlainProgram}
 use Rattle.machine_model.specs.Machine.{end_of, start_machine}
 use Rattle.machine_model.specs.Shapes.{IsVerified}
@@ -49,7 +49,7 @@ steps_of text p e = by (nat_lt 1048576 (length text)) e
     by true e' = cc
     by false e' = of_tokens text (tokens_of text) p e'
 
-pub is_linked : (text : List ℕ) (p : PlainProgram) → linked text ≡ Ok p → IsLinked p
+pub is_linked : (text : List ℕ) (p : PlainProgram) → linked text ≡ Ok p → IsWithinBounds p
 is_linked text p e = let s = steps_of text p e in linked_is_small s.classes p s.links
 
 pub is_well_linked : (text : List ℕ) (p : PlainProgram) → linked text ≡ Ok p → IsWellLinked p

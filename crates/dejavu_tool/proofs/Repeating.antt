@@ -1,5 +1,6 @@
 -- One text and the bytes of one log have one run.
-use Rattle.std.proofs.Common.{◌≡◌, ℕ, List, length, Option, Some, Result, Ok, sym, subst, ◌∙◌}
+use Rattle.std.proofs.Common.{◌≡◌, ℕ, List, length, Option, Some, Result, Ok, Err, ap, sym, subst, ◌∙◌}
+use Rattle.std.specs.Prelude.{IfOk}
 use Rattle.vm_model.specs.declared.ends.End.{End}
 use Rattle.vm_model.specs.Program.{PlainProgram}
 use Rattle.machine_model.specs.Machine.{MachineState, end_of, run}
@@ -8,6 +9,8 @@ use Rattle.schedule_log.specs.Reading.{read_log}
 use Rattle.schedule_log.specs.Spelling.{Spells}
 use Rattle.schedule_log.proofs.Spelled.{read_again}
 use Rattle.report_writer.specs.Texts.{run_text}
+use Rattle.thread_driver.specs.Recordings.{IsRecording}
+use Rattle.dejavu_tool.specs.Runs.{TellsRecording}
 use Rattle.dejavu_tool.specs.Accepting.{linked}
 use Rattle.dejavu_tool.specs.Headline.{IsRunOfFiles}
 
@@ -47,3 +50,25 @@ same_files before logs other_before other_logs program log other_program other_l
     let read = subst (λ (x : List ℕ). read_log x ≡ Ok r.of_log) same_bytes (spelled_is_read r.of_log r.bytes r.spelled) in
     let same_l = same_ok (read_log o.bytes) r.of_log o.of_log read (spelled_is_read o.of_log o.bytes o.spelled) in
     same_run r.of_program o.of_program r.of_log o.of_log r.machine o.machine r.end o.end printed also same_p same_l r.runs o.runs r.ended o.ended r.prints o.prints
+
+-- the replay of a recording tells what the recording told
+pub tells_again : {V E : Type 0} (r : Result V E) (text : V → List ℕ) (p q : PlainProgram) (budget : ℕ) (bytes printed : List ℕ) (log again : PlainLog) (n k : ℕ) (e : End) (output shown : List ℕ)
+    → TellsRecording p budget bytes printed → Spells log bytes → IsRecording p again output e → again ≡ log → q ≡ p → n ≡ events again → k ≡ length again.intervals → shown ≡ output
+    → IfOk r (λ v. text v ≡ run_text q n k e shown) → IfOk r (λ v. TellsRecording p budget bytes (text v))
+tells_again (Ok v) text p q budget bytes printed log again n k e output shown recorded spelled run same is_p is_n is_k is_shown h =
+    let one : again ≡ recorded.log = same ∙ same_ok (read_log bytes) log recorded.log (spelled_is_read log bytes spelled) (spelled_is_read recorded.log bytes recorded.spelled) in
+    record {
+      log = again;
+      spelled = subst (λ (l : PlainLog). Spells l bytes) (sym same) spelled;
+      budget_is = ap (λ (l : PlainLog). l.budget) one ∙ recorded.budget_is;
+      scheduled = ap expansion one ∙ recorded.scheduled;
+      run = record {
+        machine = run.machine;
+        runs = run.runs;
+        end = e;
+        ended = run.ended;
+        kind = run.kind;
+        prints = h ∙ ap (λ (x : PlainProgram). run_text x n k e shown) is_p ∙ ap (λ (x : ℕ). run_text p x k e shown) is_n ∙ ap (λ (x : ℕ). run_text p (events again) x e shown) is_k ∙ ap (λ (x : List ℕ). run_text p (events again) (length again.intervals) e x) is_shown ∙ ap (λ (x : List ℕ). run_text p (events again) (length again.intervals) e x) run.printed;
+      };
+    }
+tells_again (Err x) text p q budget bytes printed log again n k e output shown recorded spelled run same is_p is_n is_k is_shown h = tt

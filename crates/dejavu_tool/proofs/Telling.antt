@@ -5,7 +5,7 @@ use Rattle.vm_model.specs.Program.{PlainProgram}
 use Rattle.shape_verifier.specs.declared.fault.ShapeKind.{ShapeKind}
 use Rattle.shape_verifier.specs.Judging.{kind_number}
 use Rattle.dejavu_tool.specs.Accepting.{linked, IsUnverified}
-use Rattle.dejavu_tool.specs.Answers.{TellsShape}
+use Rattle.dejavu_tool.specs.Files.{TellsShape}
 use Rattle.dejavu_tool.specs.Lines.{shape_line}
 use Rattle.dejavu_tool.proofs.Repeating.{same_ok}
 

@@ -1,5 +1,6 @@
 -- Which texts are programs.
 use Rattle.std.specs.Prelude.{◌≡◌, ℕ, List, length, nat_lt, if◌then◌else◌, Result, Ok, Err}
+use Rattle.vm_model.specs.declared.limits.TheConstants.{MOST_TEXT_BYTES}
 use Rattle.vm_model.specs.Program.{PlainProgram}
 use Rattle.jasmin_text.specs.declared.token.Token.{Token}
 use Rattle.jasmin_text.specs.Texts.{Spoiled, tokens_of}
@@ -31,7 +32,7 @@ by_tokens text (Err s) = Err (fault.Text s.kind s.line s.column)
 
 -- the linked program of a text, or its first fault; a text above 1,048,576 bytes isn't read at all
 unfoldable pub linked : List ℕ → Result PlainProgram ProgramFault
-linked text = if nat_lt 1048576 (length text) then Err (fault.Read TooMany 0) else by_tokens text (tokens_of text)
+linked text = if nat_lt MOST_TEXT_BYTES (length text) then Err (fault.Read TooMany 0) else by_tokens text (tokens_of text)
 
 -- ---- the program of a text
 

@@ -1,6 +1,6 @@
 -- What a command was given and left: in the folder, and in the sink.
 use Rattle.std.specs.Prelude.{◌≡◌, ℕ, Bool, List, ◌++◌, Option, Some, None, IsTrue}
-use Rattle.tool_io.specs.Outside.{HasRisen, SameFiles, TakesPrefix}
+use Rattle.tool_io.specs.Outside.{HasRisen, SameFiles, SetsFile, TakesPrefix}
 
 -- whether the folder tells its files, the bytes under each name before and after, and its counts of failed loads and stores
 pub record FolderCall : Type 0 where
@@ -39,6 +39,10 @@ StoreFails c = HasRisen c.stores_before c.stores_after
 -- no file changed
 abbrev pub IsUntouched : FolderCall → Type 0
 IsUntouched c = IsTrue c.told → SameFiles c.before c.after
+
+-- the bytes are stored under the name, and no other file changed
+abbrev pub Stores : FolderCall → List ℕ → List ℕ → Type 0
+Stores c name bytes = IsTrue c.told → SetsFile c.before c.after name bytes
 
 -- the whole text was put
 abbrev pub Puts : SinkCall → List ℕ → Type 0

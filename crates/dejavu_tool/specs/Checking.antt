@@ -7,7 +7,7 @@ abbrev pub instructions_of : List PlainMethod → ℕ
 instructions_of [] = 0
 instructions_of (m ∷ ms) = length m.code + instructions_of ms
 
--- the methods of the text: behind them stands Thread's own
+-- the methods of the text: after them stands Thread's own
 abbrev pub text_methods : List PlainMethod → List PlainMethod
 text_methods methods = take (length methods - 1) methods
 

@@ -15,7 +15,8 @@ use Rattle.dejavu_tool.specs.declared.status.Status.TheVariants as status
 use Rattle.dejavu_tool.specs.Accepting.{IsAccepted}
 use Rattle.dejavu_tool.specs.Checking.{check_text}
 use Rattle.dejavu_tool.specs.Calls.{FolderCall, SinkCall}
-use Rattle.dejavu_tool.specs.Commands.{Request, Check, Record, Replay}
+use Rattle.command_line.specs.Requests.{Request, Check, Record, Replay, Show, Derive, Run, Seek, Isolate, Drill}
+use Rattle.dejavu_tool.specs.Answers.{Derives, Drills, Isolates, Runs, Seeks, Shows}
 
 -- The bytes under LOG spell one log. It tiles the run's events, and its threads lead the accepted program of the text under P
 -- to a machine with an end of the log's kind. What is printed is that run: its numbers of events and intervals, its end and
@@ -37,13 +38,13 @@ pub record IsRunOfFiles (before logs : List ℕ → Option (List ℕ)) (program 
   pub kind : of_log.end ≡ kind_of_end end
   pub prints : printed ≡ run_text of_program (events of_log) (length of_log.intervals) end machine.world.output
 
--- The log that is under LOG afterwards is of the run by the ring without switches, with a budget of 1,048,576 events. No other
--- file changed.
-pub record IsFinishedRecording (c : FolderCall) (s : SinkCall) (program log : List ℕ) : Type 0 where
+-- The log that is under LOG afterwards is of the run by the ring without switches, of at most so many events. No other file
+-- changed.
+pub record IsFinishedRecording (c : FolderCall) (s : SinkCall) (program log : List ℕ) (events : ℕ) : Type 0 where
   pub printed : List ℕ
   pub run : IsRunOfFiles c.before c.after program log printed
-  pub budget : run.of_log.budget ≡ 1048576
-  pub scheduled : expansion run.of_log ≡ schedule_threads run.of_program [] 1048576
+  pub budget : run.of_log.budget ≡ events
+  pub scheduled : expansion run.of_log ≡ schedule_threads run.of_program [] events
   pub stored : SetsFile c.before c.after log run.bytes
   pub puts : s.after ≡ s.before ++ printed
 
@@ -68,15 +69,47 @@ CheckHolds (Check program) c s answer = answer ≡ status.Ok → IsTrue c.told �
 CheckHolds _ c s answer = Unit {0}
 
 abbrev pub RecordingHolds : Request → FolderCall → SinkCall → Status → Type 0
-RecordingHolds (Record program log) c s answer = answer ≡ status.Ok → IsTrue c.told → IsTrue s.told → IsFinishedRecording c s program log
+RecordingHolds (Record program log events) c s answer = answer ≡ status.Ok → IsTrue c.told → IsTrue s.told → IsFinishedRecording c s program log events
 RecordingHolds _ c s answer = Unit {0}
 
 abbrev pub ReplayHolds : Request → FolderCall → SinkCall → Status → Type 0
 ReplayHolds (Replay program log) c s answer = answer ≡ status.Ok → IsTrue c.told → IsTrue s.told → IsFinishedReplay c s program log
 ReplayHolds _ c s answer = Unit {0}
 
+-- this was done, and what is printed of it was put, and nothing else
+pub record Finishes (s : SinkCall) (does : List ℕ → Type 0) : Type 0 where
+  pub printed : List ℕ
+  pub done : does printed
+  pub puts : s.after ≡ s.before ++ printed
+
+abbrev pub ShowHolds : Request → FolderCall → SinkCall → Status → Type 0
+ShowHolds (Show program log clock) c s answer = answer ≡ status.Ok → IsTrue s.told → Finishes s (Shows c program log clock)
+ShowHolds _ c s answer = Unit {0}
+
+abbrev pub RunHolds : Request → FolderCall → SinkCall → Status → Type 0
+RunHolds (Run program schedule events) c s answer = answer ≡ status.Ok → IsTrue s.told → Finishes s (Runs c program schedule events)
+RunHolds _ c s answer = Unit {0}
+
+abbrev pub DeriveHolds : Request → FolderCall → SinkCall → Status → Type 0
+DeriveHolds (Derive program log schedule) c s answer = answer ≡ status.Ok → IsTrue s.told → Finishes s (Derives c program log schedule)
+DeriveHolds _ c s answer = Unit {0}
+
+abbrev pub SeekHolds : Request → FolderCall → SinkCall → Status → Type 0
+SeekHolds (Seek program seed tries schedule events) c s answer = answer ≡ status.Ok → IsTrue s.told → Finishes s (Seeks c program seed tries schedule events)
+SeekHolds _ c s answer = Unit {0}
+
+-- A finished isolation. The two schedules stand between the given ones, the one passes, the other fails alike, and no unit shift
+-- of a single time narrows their difference.
+abbrev pub IsolationHolds : Request → FolderCall → SinkCall → Status → Type 0
+IsolationHolds (Isolate program pass fail tests workers events) c s answer = answer ≡ status.Ok → IsTrue s.told → Finishes s (Isolates c program pass fail tests events)
+IsolationHolds _ c s answer = Unit {0}
+
+abbrev pub DrillHolds : Request → FolderCall → SinkCall → Status → Type 0
+DrillHolds (Drill workers program) c s answer = answer ≡ status.Ok → IsTrue s.told → Finishes s (Drills c workers program)
+DrillHolds _ c s answer = Unit {0}
+
 -- A replay, whatever the names of its files, prints what the recording of its log printed, where the program's text is the same.
 abbrev pub ReplayPrintsRecording : Type 0
-ReplayPrintsRecording = (c d : FolderCall) (s t : SinkCall) (program log other_program other_log : List ℕ)
-    → (recording : IsFinishedRecording c s program log) → (replay : IsFinishedReplay d t other_program other_log)
+ReplayPrintsRecording = (c d : FolderCall) (s t : SinkCall) (program log other_program other_log : List ℕ) (events : ℕ)
+    → (recording : IsFinishedRecording c s program log events) → (replay : IsFinishedReplay d t other_program other_log)
     → c.before program ≡ d.before other_program → c.after log ≡ d.before other_log → replay.printed ≡ recording.printed

@@ -1,9 +1,10 @@
 pub mod Statuses
-pub mod Commands
 pub mod Lines
 pub mod Accepting
 pub mod Checking
 pub mod Calls
+pub mod Files
+pub mod Runs
 pub mod Answers
 pub mod Stages
 pub mod Headline

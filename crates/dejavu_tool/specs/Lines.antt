@@ -1,7 +1,9 @@
 -- The one line that a refusal prints.
 use Rattle.std.specs.Prelude.{ℕ, List, [], ◌∷◌, ◌++◌, Option, Some, None, codes, decimal}
 use Rattle.vm_model.specs.Program.{PlainProgram}
+use Rattle.vm_model.specs.declared.ends.End.{End}
 use Rattle.report_writer.specs.Names.{method_name}
+use Rattle.report_writer.specs.Texts.{end_text}
 
 abbrev pub named : List ℕ → List ℕ → List ℕ
 named word name = word ++ name ++ 10 ∷ []
@@ -36,6 +38,26 @@ shape_line p kind method at =
 -- the number of the fault and the offset of its byte
 abbrev pub log_refused_line : ℕ → ℕ → List ℕ
 log_refused_line kind offset = codes "log refused: " ++ decimal kind ++ codes " at " ++ decimal offset ++ 10 ∷ []
+
+-- the number of the fault and the offset of its byte
+abbrev pub schedule_refused_line : ℕ → ℕ → List ℕ
+schedule_refused_line kind offset = codes "schedule refused: " ++ decimal kind ++ codes " at " ++ decimal offset ++ 10 ∷ []
+
+-- a schedule would need too many times from this clock on
+abbrev pub too_many_line : ℕ → List ℕ
+too_many_line clock = codes "schedule refused: 2 at clock " ++ decimal clock ++ 10 ∷ []
+
+abbrev pub not_passing_line : PlainProgram → End → List ℕ
+not_passing_line p e = codes "not passing: " ++ end_text p e
+
+abbrev pub not_failing_line : PlainProgram → End → List ℕ
+not_failing_line p e = codes "not failing: " ++ end_text p e
+
+abbrev pub tests_spent_line : ℕ → List ℕ
+tests_spent_line asked = codes "tests spent " ++ decimal asked ++ 10 ∷ []
+
+abbrev pub not_found_line : ℕ → List ℕ
+not_found_line tries = codes "not found in " ++ decimal tries ++ codes " tries" ++ 10 ∷ []
 
 abbrev pub at_thread : Option ℕ → List ℕ
 at_thread None = codes " at the end"

@@ -4,7 +4,7 @@ ghost use Rattle.std.specs.Prelude.{◌≡◌, ◌++◌, decimal, IfOk, IfErr, O
 ghost use Rattle.dejavu_tool.specs.Answers.{Checks};
 ghost use Rattle.dejavu_tool.specs.Calls.{folder_call};
 ghost use Rattle.dejavu_tool.specs.Checking as spec;
-ghost use Rattle.dejavu_tool.specs.Commands.{Check};
+ghost use Rattle.command_line.specs.Requests.{Check};
 ghost use Rattle.dejavu_tool.specs.Stages.{Halts};
 
 use crate::halt::Halt;
@@ -38,7 +38,7 @@ fn text_methods(methods: &[Method]) -> &[Method]
 }
 
 #[tactic(auto, unfolding(crate::specs::Checking::count_line))]
-fn put_count(out: &mut Vec<u8>, word: &[u8], count: u128) -> Result<(), NoMemory>
+pub fn put_count(out: &mut Vec<u8>, word: &[u8], count: u128) -> Result<(), NoMemory>
     ensures { OnOk result (out.new.items ≡ out.old.items ++ spec.count_line word.now count) }
 {
     let mut buffer = Buffer::new();

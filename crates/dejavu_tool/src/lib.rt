@@ -2,22 +2,23 @@
 #![tactic(auto)]
 
 mod checking;
+mod derivation;
+mod drilling;
 mod halt;
+mod isolating;
 pub mod laws;
 mod lines;
 mod loading;
 mod programs;
 mod recording;
 mod replaying;
+mod running;
+mod seeking;
+mod showing;
 mod status;
+mod storing;
 mod top;
-mod words;
 
 pub use programs::{ProgramFault, accept, linked_program};
 pub use status::Status;
 pub use top::dejavu;
-
-#[cfg(test)]
-mod shapes_tested;
-#[cfg(test)]
-mod tests;

@@ -1,19 +1,9 @@
 ghost use Rattle.std.specs.Prelude.{◌≡◌, ◌++◌, ◌∷◌, [], List, ℕ, IfOk, OnOk, decimal};
 ghost use Rattle.dejavu_tool.specs.Lines as spec;
 
-use itoa::Buffer;
-use report_writer::put_method;
+use report_writer::{end_text, put_method, put_number};
 use std::alloc::Global;
-use vm_model::{NoMemory, Program};
-
-/// Adds a number in decimal.
-fn put_number(out: &mut Vec<u8>, n: u64) -> Result<(), NoMemory>
-    ensures { OnOk result (out.new.items ≡ out.old.items ++ decimal n) }
-{
-    let mut buffer = Buffer::new();
-    out.extend_from_slice(buffer.format(n).as_bytes())?;
-    Ok(())
-}
+use vm_model::{End, NoMemory, Program};
 
 /// A line of a word and a file's name.
 fn named(alloc: Global, word: &[u8], name: &str) -> Result<Vec<u8>, NoMemory>
@@ -132,6 +122,62 @@ pub fn diverged(alloc: Global, clock: u64, thread: Option<u32>) -> Result<Vec<u8
         }
         None => out.extend_from_slice(b" at the end")?,
     }
+    out.push(10)?;
+    Ok(out)
+}
+
+pub fn schedule_refused(alloc: Global, kind: u8, offset: u64) -> Result<Vec<u8>, NoMemory>
+    ensures { IfOk result (λ line. line.items ≡ spec.schedule_refused_line kind offset) }
+{
+    let mut out = Vec::from_slice(alloc, b"schedule refused: ")?;
+    put_number(&mut out, kind as u64)?;
+    out.extend_from_slice(b" at ")?;
+    put_number(&mut out, offset)?;
+    out.push(10)?;
+    Ok(out)
+}
+
+/// The line of a log whose schedule would need too many times.
+pub fn too_many(alloc: Global, clock: u64) -> Result<Vec<u8>, NoMemory>
+    ensures { IfOk result (λ line. line.items ≡ spec.too_many_line clock) }
+{
+    let mut out = Vec::from_slice(alloc, b"schedule refused: 2 at clock ")?;
+    put_number(&mut out, clock)?;
+    out.push(10)?;
+    Ok(out)
+}
+
+pub fn not_passing(alloc: Global, program: &Program, end: &End) -> Result<Vec<u8>, NoMemory>
+    ensures { IfOk result (λ line. line.items ≡ spec.not_passing_line program.now end.now) }
+{
+    let mut out = Vec::from_slice(alloc, b"not passing: ")?;
+    out.extend_from_slice(&end_text(alloc, end, program)?)?;
+    Ok(out)
+}
+
+pub fn not_failing(alloc: Global, program: &Program, end: &End) -> Result<Vec<u8>, NoMemory>
+    ensures { IfOk result (λ line. line.items ≡ spec.not_failing_line program.now end.now) }
+{
+    let mut out = Vec::from_slice(alloc, b"not failing: ")?;
+    out.extend_from_slice(&end_text(alloc, end, program)?)?;
+    Ok(out)
+}
+
+pub fn tests_spent(alloc: Global, asked: u64) -> Result<Vec<u8>, NoMemory>
+    ensures { IfOk result (λ line. line.items ≡ spec.tests_spent_line asked) }
+{
+    let mut out = Vec::from_slice(alloc, b"tests spent ")?;
+    put_number(&mut out, asked)?;
+    out.push(10)?;
+    Ok(out)
+}
+
+pub fn not_found(alloc: Global, tries: u64) -> Result<Vec<u8>, NoMemory>
+    ensures { IfOk result (λ line. line.items ≡ spec.not_found_line tries) }
+{
+    let mut out = Vec::from_slice(alloc, b"not found in ")?;
+    put_number(&mut out, tries)?;
+    out.extend_from_slice(b" tries")?;
     out.push(10)?;
     Ok(out)
 }

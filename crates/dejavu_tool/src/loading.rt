@@ -1,21 +1,25 @@
 //! The files of a command.
 
-ghost use Rattle.std.specs.Prelude.{◌≡◌, None, IfOk, IfErr};
+ghost use Rattle.std.specs.Prelude.{◌≡◌, ◌≤◌, None, IfOk, IfErr, length};
+ghost use Rattle.vm_model.specs.declared.limits.TheConstants.{MOST_EVENTS};
 ghost use Rattle.machine_model.specs.Machine.{end_of, start_machine};
 ghost use Rattle.schedule_log.specs.Spelling.{Spells};
+ghost use Rattle.switch_schedule.specs.Texts.{SpellsSchedule};
 ghost use Rattle.dejavu_tool.specs.declared.programs.ProgramFault.TheVariants.{Shape};
 ghost use Rattle.dejavu_tool.specs.Accepting.{IsAccepted, Refuses};
-ghost use Rattle.dejavu_tool.specs.Answers.{LoadsLog, LoadsProgram, TellsFault, TellsShape};
 ghost use Rattle.dejavu_tool.specs.Calls.{folder_call, Loads};
-ghost use Rattle.dejavu_tool.specs.Stages.{BytesHalt, FileHalts, LogHalts, OnlyReads, ProgramHalts, TextHalts};
+ghost use Rattle.dejavu_tool.specs.Files.{FileStops, LoadsLog, LoadsProgram, LoadsSchedule, LogStops, ProgramStops, ScheduleStops, TellsFault, TellsShape};
+ghost use Rattle.dejavu_tool.specs.Stages.{BytesStop, HaltsBy, OnlyReads, TextStops, TimesStop};
 
 use crate::halt::Halt;
 use crate::lines;
 use crate::programs::{ProgramFault, accept, linked_program};
 use crate::status::Status;
 use schedule_log::{Log, LogFault, decode};
+use schedule_model::Schedule;
 use shape_verifier::{ShapeKind, Shaped};
 use std::alloc::Global;
+use switch_schedule::{ScheduleFault, read_schedule};
 use tool_io::{Folder, Load};
 use vm_model::NoMemory;
 
@@ -24,7 +28,7 @@ fn load_file<F: Folder>(alloc: Global, name: &str, folder: &mut F) -> Result<Vec
     ensures told { F.is_told folder.new ≡ F.is_told folder.old }
     ensures reads { OnlyReads (folder_call F.is_told F.file F.load_faults F.store_faults folder.old folder.new) }
     ensures loaded { IfOk result (λ bytes. Loads (folder_call F.is_told F.file F.load_faults F.store_faults folder.old folder.new) name.now bytes.items) }
-    ensures halts { IfErr result (FileHalts (folder_call F.is_told F.file F.load_faults F.store_faults folder.old folder.new) name.now) }
+    ensures halts { IfErr result (HaltsBy (FileStops (folder_call F.is_told F.file F.load_faults F.store_faults folder.old folder.new) name.now)) }
 {
     match folder.load(alloc, name) {
         Load::Loaded(bytes) => Ok(bytes),
@@ -68,10 +72,10 @@ fn refusal(alloc: Global, text: &[u8], fault: ProgramFault) -> Result<Vec<u8>, N
 }
 
 /// The program of a text.
-fn program_of(alloc: Global, text: &[u8]) -> Result<Shaped, Halt>
+pub fn program_of(alloc: Global, text: &[u8]) -> Result<Shaped, Halt>
     ensures accepted { IfOk result (λ p. IsAccepted text.now p) }
-    ensures begins { IfOk result (λ p. end_of p (start_machine p) 1048576 ≡ None) }
-    ensures halts { IfErr result (TextHalts text.now) }
+    ensures begins { IfOk result (λ p. end_of p (start_machine p) MOST_EVENTS ≡ None) }
+    ensures halts { IfErr result (HaltsBy (TextStops text.now)) }
 {
     match accept(alloc, text) {
         Ok(shaped) => Ok(shaped),
@@ -82,7 +86,7 @@ fn program_of(alloc: Global, text: &[u8]) -> Result<Shaped, Halt>
 /// The log that bytes spell.
 fn log_of(alloc: Global, bytes: &[u8]) -> Result<Log, Halt>
     ensures spelled { IfOk result (λ log. Spells log bytes.now) }
-    ensures halts { IfErr result (BytesHalt bytes.now) }
+    ensures halts { IfErr result (HaltsBy (BytesStop bytes.now)) }
 {
     match decode(alloc, bytes) {
         Ok(log) => Ok(log),
@@ -94,13 +98,29 @@ fn log_of(alloc: Global, bytes: &[u8]) -> Result<Log, Halt>
     }
 }
 
+/// The schedule that bytes spell, for so many events.
+fn schedule_of(alloc: Global, bytes: &[u8], events: u64) -> Result<Schedule, Halt>
+    requires { events ≤ MOST_EVENTS }
+    ensures spelled { IfOk result (λ times. SpellsSchedule events times bytes.now) }
+    ensures halts { IfErr result (HaltsBy (TimesStop events bytes.now)) }
+{
+    match read_schedule(alloc, bytes, events) {
+        Ok(schedule) => Ok(schedule),
+        Err(ScheduleFault::At { kind, offset }) => Err(Halt::Told(
+            Status::ScheduleRefused,
+            lines::schedule_refused(alloc, kind.number(), offset)?,
+        )),
+        Err(ScheduleFault::NoMemory) => Err(Halt::Memory),
+    }
+}
+
 /// The program of a file.
 pub fn load_program<F: Folder>(alloc: Global, name: &str, folder: &mut F) -> Result<Shaped, Halt>
     ensures told { F.is_told folder.new ≡ F.is_told folder.old }
     ensures reads { OnlyReads (folder_call F.is_told F.file F.load_faults F.store_faults folder.old folder.new) }
     ensures loads { IfOk result (LoadsProgram (folder_call F.is_told F.file F.load_faults F.store_faults folder.old folder.new) name.now) }
-    ensures begins { IfOk result (λ p. end_of p (start_machine p) 1048576 ≡ None) }
-    ensures halts { IfErr result (ProgramHalts (folder_call F.is_told F.file F.load_faults F.store_faults folder.old folder.new) name.now) }
+    ensures begins { IfOk result (λ p. end_of p (start_machine p) MOST_EVENTS ≡ None) }
+    ensures halts { IfErr result (HaltsBy (ProgramStops (folder_call F.is_told F.file F.load_faults F.store_faults folder.old folder.new) name.now)) }
 {
     let text = load_file(alloc, name, folder)?;
     program_of(alloc, &text)
@@ -111,8 +131,25 @@ pub fn load_log<F: Folder>(alloc: Global, name: &str, folder: &mut F) -> Result<
     ensures told { F.is_told folder.new ≡ F.is_told folder.old }
     ensures reads { OnlyReads (folder_call F.is_told F.file F.load_faults F.store_faults folder.old folder.new) }
     ensures loads { IfOk result (LoadsLog (folder_call F.is_told F.file F.load_faults F.store_faults folder.old folder.new) name.now) }
-    ensures halts { IfErr result (LogHalts (folder_call F.is_told F.file F.load_faults F.store_faults folder.old folder.new) name.now) }
+    ensures halts { IfErr result (HaltsBy (LogStops (folder_call F.is_told F.file F.load_faults F.store_faults folder.old folder.new) name.now)) }
 {
     let bytes = load_file(alloc, name, folder)?;
     log_of(alloc, &bytes)
+}
+
+/// The schedule of a file, for so many events.
+pub fn load_schedule<F: Folder>(
+    alloc: Global,
+    name: &str,
+    events: u64,
+    folder: &mut F,
+) -> Result<Schedule, Halt>
+    requires { events ≤ MOST_EVENTS }
+    ensures told { F.is_told folder.new ≡ F.is_told folder.old }
+    ensures reads { OnlyReads (folder_call F.is_told F.file F.load_faults F.store_faults folder.old folder.new) }
+    ensures loads { IfOk result (LoadsSchedule (folder_call F.is_told F.file F.load_faults F.store_faults folder.old folder.new) events name.now) }
+    ensures halts { IfErr result (HaltsBy (ScheduleStops (folder_call F.is_told F.file F.load_faults F.store_faults folder.old folder.new) events name.now)) }
+{
+    let bytes = load_file(alloc, name, folder)?;
+    schedule_of(alloc, &bytes, events)
 }

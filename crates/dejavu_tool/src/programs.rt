@@ -1,4 +1,5 @@
 ghost use Rattle.std.specs.Prelude.{◌≡◌, ◌≤◌, IfOk, IfErr, None, Ok, length};
+ghost use Rattle.vm_model.specs.declared.limits.TheConstants.{MOST_EVENTS};
 ghost use Rattle.class_linker.specs.Linking.{linking};
 ghost use Rattle.jasmin_reader.specs.Reading.{reading};
 ghost use Rattle.jasmin_text.specs.Texts.{tokens_of};
@@ -10,10 +11,7 @@ use jasmin_reader::{ClassText, ReadFault, ReadKind, read_classes};
 use jasmin_text::{TextFault, TextKind, Token, tokens};
 use shape_verifier::{ShapeFault, ShapeKind, Shaped, verify};
 use std::alloc::Global;
-use vm_model::Program;
-
-/// The greatest size of a program's text, in bytes.
-const MOST_TEXT: usize = 1_048_576;
+use vm_model::{MOST_TEXT_BYTES, Program};
 
 /// Why a text is not accepted. Nothing is left behind. Lines and columns count from 1, columns in bytes.
 #[derive(Clone, Copy, Debug, PartialEq, Eq)]
@@ -24,7 +22,7 @@ pub enum ProgramFault {
         line: u32,
         column: u32,
     },
-    /// The first line that breaks the grammar, and the least of its faults; TooMany at line 0 for a text of more than 1,048,576
+    /// The first line that breaks the grammar, and the least of its faults; TooMany at line 0 for a text of more than `MOST_TEXT_BYTES`
     /// bytes.
     Read {
         kind: ReadKind,
@@ -68,7 +66,7 @@ fn link_tokens(alloc: Global, text: &[u8], tokens: &[Token]) -> Result<Program, 
 }
 
 fn link_text(alloc: Global, text: &[u8]) -> Result<Program, ProgramFault>
-    requires { length text.now ≤ 1048576 }
+    requires { length text.now ≤ MOST_TEXT_BYTES }
     ensures { Gives result (by_tokens text.now (tokens_of text.now)) }
 {
     match tokens(alloc, text) {
@@ -82,9 +80,9 @@ fn link_text(alloc: Global, text: &[u8]) -> Result<Program, ProgramFault>
 #[tactic(auto, unfolding(crate::specs::Accepting::linked))]
 pub fn linked_program(alloc: Global, text: &[u8]) -> Result<Program, ProgramFault>
     ensures gives { Gives result (linked text.now) }
-    ensures small { IfOk result (λ _. length text.now ≤ 1048576) }
+    ensures small { IfOk result (λ _. length text.now ≤ MOST_TEXT_BYTES) }
 {
-    if text.len() > MOST_TEXT {
+    if text.len() > MOST_TEXT_BYTES {
         return Err(ProgramFault::Read {
             kind: ReadKind::TooMany,
             line: 0,
@@ -93,13 +91,13 @@ pub fn linked_program(alloc: Global, text: &[u8]) -> Result<Program, ProgramFaul
     link_text(alloc, text)
 }
 
-/// The program of a text in Jasmin's form, of at most 1,048,576 bytes. An accepted program makes an event.
+/// The program of a text in Jasmin's form, of at most `MOST_TEXT_BYTES` bytes. An accepted program makes an event.
 ///
 /// The text's bytes are judged first, then its grammar, then its names, and last the shapes of its methods.
 pub fn accept(alloc: Global, text: &[u8]) -> Result<Shaped, ProgramFault>
     ensures accepted { IfOk result (λ p. IsAccepted text.now p) }
     ensures refused { IfErr result (Refuses text.now) }
-    ensures begins { IfOk result (λ p. end_of p (start_machine p) 1048576 ≡ None) }
+    ensures begins { IfOk result (λ p. end_of p (start_machine p) MOST_EVENTS ≡ None) }
 {
     let program = linked_program(alloc, text)?;
     match verify(alloc, program) {

@@ -1,23 +1,23 @@
 //! Recording: the run of a program, its log and what is printed of it.
 
-ghost use Rattle.std.specs.Prelude.{◌≡◌, None, IfOk, IfErr, OnOk};
+ghost use Rattle.std.specs.Prelude.{◌≡◌, ◌≤◌, None, IfOk, IfErr};
+ghost use Rattle.vm_model.specs.declared.limits.TheConstants.{MOST_EVENTS};
 ghost use Rattle.machine_model.specs.Machine.{end_of, start_machine};
-ghost use Rattle.dejavu_tool.specs.Answers.{Records, TellsRecording};
+ghost use Rattle.command_line.specs.Requests.{Record};
+ghost use Rattle.dejavu_tool.specs.Answers.{Records};
 ghost use Rattle.dejavu_tool.specs.Calls.{folder_call};
-ghost use Rattle.dejavu_tool.specs.Commands.{Record};
-ghost use Rattle.dejavu_tool.specs.Stages.{Halts, StoreHalts, Stores};
+ghost use Rattle.dejavu_tool.specs.Runs.{TellsRecording};
+ghost use Rattle.dejavu_tool.specs.Stages.{Halts};
 
 use crate::halt::Halt;
 use crate::loading::load_program;
+use crate::storing::store_file;
 use report_writer::run_text;
 use schedule_log::encode;
 use std::alloc::Global;
 use thread_driver::record_still;
-use tool_io::{Folder, Store};
+use tool_io::Folder;
 use vm_model::{NoMemory, Plain};
-
-/// How many events a recording may have.
-const MOST_EVENTS: u64 = 1_048_576;
 
 /// The file of a run's log, and what is printed of the run.
 #[derive(Drop)]
@@ -26,12 +26,14 @@ pub struct Recorded {
     pub text: Vec<u8>,
 }
 
-/// The run by the ring without switches.
-pub fn run_recorded(alloc: Global, plain: &Plain) -> Result<Recorded, NoMemory>
-    requires begins { end_of plain.now (start_machine plain.now) 1048576 ≡ None }
-    ensures { IfOk result (λ r. TellsRecording plain.now r.bytes.items r.text.items) }
+/// The run by the ring without switches, of at most so many events.
+pub fn run_recorded(alloc: Global, plain: &Plain, events: u64) -> Result<Recorded, NoMemory>
+    requires some { 1 ≤ events }
+    requires limit { events ≤ MOST_EVENTS }
+    requires begins { end_of plain.now (start_machine plain.now) MOST_EVENTS ≡ None }
+    ensures { IfOk result (λ r. TellsRecording plain.now events r.bytes.items r.text.items) }
 {
-    let Ok(recording) = record_still(alloc, plain, MOST_EVENTS) else {
+    let Ok(recording) = record_still(alloc, plain, events) else {
         return Err(NoMemory);
     };
     let log = &recording.log;
@@ -49,31 +51,21 @@ pub fn run_recorded(alloc: Global, plain: &Plain) -> Result<Recorded, NoMemory>
     })
 }
 
-fn store_log<F: Folder>(alloc: Global, name: &str, bytes: &[u8], folder: &mut F) -> Result<(), Halt>
-    ensures told { F.is_told folder.new ≡ F.is_told folder.old }
-    ensures loads { F.load_faults folder.new ≡ F.load_faults folder.old }
-    ensures stored { OnOk result (Stores (folder_call F.is_told F.file F.load_faults F.store_faults folder.old folder.new) name.now bytes.now) }
-    ensures halts { IfErr result (StoreHalts (folder_call F.is_told F.file F.load_faults F.store_faults folder.old folder.new) name.now) }
-{
-    match folder.store(alloc, name, bytes) {
-        Store::Stored => Ok(()),
-        Store::Failed => Err(Halt::Store),
-        Store::NoMemory => Err(Halt::Memory),
-    }
-}
-
 /// Records the program of one file, and stores its log under the other name. What is printed is the result.
 pub fn record_file<F: Folder>(
     alloc: Global,
     program: &str,
     log: &str,
+    events: u64,
     folder: &mut F,
 ) -> Result<Vec<u8>, Halt>
-    ensures records { IfOk result (λ text. Records (folder_call F.is_told F.file F.load_faults F.store_faults folder.old folder.new) program.now log.now text.items) }
-    ensures halts { IfErr result (Halts (Record program.now log.now) (folder_call F.is_told F.file F.load_faults F.store_faults folder.old folder.new)) }
+    requires some { 1 ≤ events }
+    requires limit { events ≤ MOST_EVENTS }
+    ensures records { IfOk result (λ text. Records (folder_call F.is_told F.file F.load_faults F.store_faults folder.old folder.new) program.now log.now events text.items) }
+    ensures halts { IfErr result (Halts (Record program.now log.now events) (folder_call F.is_told F.file F.load_faults F.store_faults folder.old folder.new)) }
 {
     let shaped = load_program(alloc, program, folder)?;
-    let run = run_recorded(alloc, shaped.plain())?;
-    store_log(alloc, log, &run.bytes, folder)?;
+    let run = run_recorded(alloc, shaped.plain(), events)?;
+    store_file(alloc, log, &run.bytes, folder)?;
     Ok(run.text)
 }

@@ -2,10 +2,11 @@
 
 ghost use Rattle.std.specs.Prelude.{◌≡◌, IfOk, IfErr};
 ghost use Rattle.thread_driver.specs.Recordings.{IsRecording};
-ghost use Rattle.dejavu_tool.specs.Answers.{Replays, TellsRun};
+ghost use Rattle.command_line.specs.Requests.{Replay};
+ghost use Rattle.dejavu_tool.specs.Answers.{Replays};
 ghost use Rattle.dejavu_tool.specs.Calls.{folder_call};
-ghost use Rattle.dejavu_tool.specs.Commands.{Replay};
-ghost use Rattle.dejavu_tool.specs.Stages.{Halts, RunHalts};
+ghost use Rattle.dejavu_tool.specs.Runs.{RunStops, TellsRun};
+ghost use Rattle.dejavu_tool.specs.Stages.{Halts, HaltsBy};
 
 use crate::halt::Halt;
 use crate::lines;
@@ -22,7 +23,7 @@ use vm_model::Plain;
 fn repeated(alloc: Global, plain: &Plain, log: &Log) -> Result<Recording, Halt>
     ensures recording { IfOk result (λ r. IsRecording plain.now r.log r.output.items r.end) }
     ensures log { IfOk result (λ r. r.log ≡ log.now) }
-    ensures halts { IfErr result (RunHalts plain.now log.now) }
+    ensures halts { IfErr result (HaltsBy (RunStops plain.now log.now)) }
 {
     match replay_still(alloc, plain, log) {
         Ok(recording) => Ok(recording),
@@ -37,7 +38,7 @@ fn repeated(alloc: Global, plain: &Plain, log: &Log) -> Result<Recording, Halt>
 /// What is printed of the run that the log tells.
 fn text_of_run(alloc: Global, plain: &Plain, log: &Log) -> Result<Vec<u8>, Halt>
     ensures run { IfOk result (λ text. TellsRun plain.now log.now text.items) }
-    ensures halts { IfErr result (RunHalts plain.now log.now) }
+    ensures halts { IfErr result (HaltsBy (RunStops plain.now log.now)) }
 {
     let run = repeated(alloc, plain, log)?;
     Ok(run_text(

@@ -14,8 +14,18 @@ pub enum Status {
     ProgramRefused,
     /// The bytes spell no log.
     LogRefused,
+    /// The bytes spell no schedule for so many events, or a log's schedule would need more than 16,384 times.
+    ScheduleRefused,
     /// The log doesn't run, or it ends otherwise than it says.
     Diverged,
+    /// The run of the schedule that should pass doesn't.
+    NotPassing,
+    /// The run of the schedule that should fail ends in no fault.
+    NotFailing,
+    /// More tests are needed than allowed.
+    TestsSpent,
+    /// No try ended in a fault.
+    NotFound,
     /// The folder failed to load a file.
     ReadFault,
     /// The folder failed to store a file, or the sink to take what is printed.
@@ -34,7 +44,12 @@ impl Status {
             Status::Absent => 3,
             Status::ProgramRefused => 4,
             Status::LogRefused => 5,
+            Status::ScheduleRefused => 6,
             Status::Diverged => 7,
+            Status::NotPassing => 8,
+            Status::NotFailing => 9,
+            Status::TestsSpent => 10,
+            Status::NotFound => 11,
             Status::ReadFault => 12,
             Status::WriteFault => 13,
             Status::OutOfMemory => 14,

@@ -1,39 +1,89 @@
 ghost use Rattle.std.specs.Prelude.{◌≡◌, IfOk, IfErr, map, string_bytes};
-ghost use Rattle.dejavu_tool.specs.declared.status.Status.TheVariants.{Ok as StatusOk};
-ghost use Rattle.dejavu_tool.specs.Answers.{Answers, Tells};
+ghost use Rattle.command_line.specs.Plain.{IsWithin, plain_command};
+ghost use Rattle.command_line.specs.Requests.{request_of};
+ghost use Rattle.dejavu_tool.specs.Answers.{Answers, Does};
 ghost use Rattle.dejavu_tool.specs.Calls.{folder_call, sink_call};
-ghost use Rattle.dejavu_tool.specs.Commands.{command_of, plain_command};
 ghost use Rattle.dejavu_tool.specs.Completeness.{IsComplete};
-ghost use Rattle.dejavu_tool.specs.Headline.{CheckHolds, RecordingHolds, ReplayHolds};
-ghost use Rattle.dejavu_tool.specs.Stages.{Halts, PutsUnlessFault, UsageHalts};
+ghost use Rattle.dejavu_tool.specs.Headline.{CheckHolds, DeriveHolds, DrillHolds, IsolationHolds, RecordingHolds, ReplayHolds, RunHolds, SeekHolds, ShowHolds};
+ghost use Rattle.dejavu_tool.specs.Stages.{Halts, HaltsBy, PutsUnlessFault, UsageTold};
 
 use crate::checking::check_file;
+use crate::derivation::derive_file;
+use crate::drilling::drill_file;
 use crate::halt::Halt;
+use crate::isolating::isolate_file;
 use crate::lines;
 use crate::recording::record_file;
 use crate::replaying::replay_file;
+use crate::running::run_file;
+use crate::seeking::seek_file;
+use crate::showing::show_file;
 use crate::status::Status;
-use crate::words::{Command, command_in};
+use command_line::{Command, command_in};
 use std::alloc::Global;
+use std::thread::Threads;
 use tool_io::{Folder, Sink, put_all};
 
 /// What the words of no command get.
 fn unknown(alloc: Global) -> Result<Vec<u8>, Halt>
     ensures some { IfOk result (λ _. ⊥) }
-    ensures halts { IfErr result UsageHalts }
+    ensures halts { IfErr result (HaltsBy UsageTold) }
 {
     Err(Halt::Told(Status::Usage, lines::usage(alloc)?))
 }
 
 /// Does what was asked for, up to the printing. What is printed is the result.
-fn done<F: Folder>(alloc: Global, command: Command, folder: &mut F) -> Result<Vec<u8>, Halt>
-    ensures tells { IfOk result (λ text. Tells (plain_command command.entry) (folder_call F.is_told F.file F.load_faults F.store_faults folder.old folder.new) StatusOk text.items) }
+fn done<H: Threads + Sync, F: Folder>(
+    rt: &H,
+    alloc: Global,
+    command: Command<'_>,
+    folder: &mut F,
+) -> Result<Vec<u8>, Halt>
+    requires { IsWithin command }
+    ensures does { IfOk result (λ text. Does (plain_command command.entry) (folder_call F.is_told F.file F.load_faults F.store_faults folder.old folder.new) text.items) }
     ensures halts { IfErr result (Halts (plain_command command.entry) (folder_call F.is_told F.file F.load_faults F.store_faults folder.old folder.new)) }
 {
     match command {
         Command::Check { program } => check_file(alloc, program, folder),
-        Command::Record { program, log } => record_file(alloc, program, log, folder),
+        Command::Record {
+            program,
+            log,
+            events,
+        } => record_file(alloc, program, log, events, folder),
         Command::Replay { program, log } => replay_file(alloc, program, log, folder),
+        Command::Show {
+            program,
+            log,
+            clock,
+        } => show_file(alloc, program, log, clock, folder),
+        Command::Derive {
+            program,
+            log,
+            schedule,
+        } => derive_file(alloc, program, log, schedule, folder),
+        Command::Run {
+            program,
+            schedule,
+            events,
+        } => run_file(alloc, program, schedule, events, folder),
+        Command::Seek {
+            program,
+            seed,
+            tries,
+            schedule,
+            events,
+        } => seek_file(alloc, program, seed, tries, schedule, events, folder),
+        Command::Isolate {
+            program,
+            pass,
+            fail,
+            tests,
+            workers,
+            events,
+        } => isolate_file(
+            rt, alloc, program, pass, fail, tests, workers, events, folder,
+        ),
+        Command::Drill { workers, program } => drill_file(alloc, workers as u32, program, folder),
         Command::Unknown => unknown(alloc),
     }
 }
@@ -49,15 +99,19 @@ fn put_text<O: Sink>(out: &mut O, status: Status, text: &[u8]) -> Status
 }
 
 /// Does what was asked for, and prints.
-fn answered<F: Folder, O: Sink>(
+fn answered<H: Threads + Sync, F: Folder, O: Sink>(
+    rt: &H,
     alloc: Global,
     words: &[String],
     folder: &mut F,
     out: &mut O,
 ) -> Status
-    ensures { Answers (command_of (map string_bytes words.now)) (folder_call F.is_told F.file F.load_faults F.store_faults folder.old folder.new) (sink_call O.is_told O.taken O.faults out.old out.new) result }
+    ensures { Answers (request_of (map string_bytes words.now)) (folder_call F.is_told F.file F.load_faults F.store_faults folder.old folder.new) (sink_call O.is_told O.taken O.faults out.old out.new) result }
 {
-    match done(alloc, command_in(words), folder) {
+    let Ok(command) = command_in(alloc, words) else {
+        return Status::OutOfMemory;
+    };
+    match done(rt, alloc, command, folder) {
         Ok(text) => put_text(out, Status::Ok, &text),
         Err(Halt::Told(status, line)) => put_text(out, status, &line),
         Err(Halt::Memory) => Status::OutOfMemory,
@@ -65,25 +119,38 @@ fn answered<F: Folder, O: Sink>(
     }
 }
 
-/// The tool. The words are those behind the program's name; the first names the command.
+/// The tool. The words are those after the program's name; the first names the command.
 ///
-/// A file is stored before anything is printed.
-pub fn dejavu<F: Folder, O: Sink>(
+/// A file is stored before anything is printed. The runtime lets `isolate` run several tests at once; each call returns.
+pub fn dejavu<H: Threads + Sync, F: Folder, O: Sink>(
+    rt: &H,
     alloc: Global,
     words: &[String],
     folder: &mut F,
     out: &mut O,
 ) -> Status
     // A finished check.
-    ensures check { CheckHolds (command_of (map string_bytes words.now)) (folder_call F.is_told F.file F.load_faults F.store_faults folder.old folder.new) (sink_call O.is_told O.taken O.faults out.old out.new) result }
+    ensures check { CheckHolds (request_of (map string_bytes words.now)) (folder_call F.is_told F.file F.load_faults F.store_faults folder.old folder.new) (sink_call O.is_told O.taken O.faults out.old out.new) result }
     // A finished recording.
-    ensures recording { RecordingHolds (command_of (map string_bytes words.now)) (folder_call F.is_told F.file F.load_faults F.store_faults folder.old folder.new) (sink_call O.is_told O.taken O.faults out.old out.new) result }
+    ensures recording { RecordingHolds (request_of (map string_bytes words.now)) (folder_call F.is_told F.file F.load_faults F.store_faults folder.old folder.new) (sink_call O.is_told O.taken O.faults out.old out.new) result }
     // A finished replay.
-    ensures replay { ReplayHolds (command_of (map string_bytes words.now)) (folder_call F.is_told F.file F.load_faults F.store_faults folder.old folder.new) (sink_call O.is_told O.taken O.faults out.old out.new) result }
+    ensures replay { ReplayHolds (request_of (map string_bytes words.now)) (folder_call F.is_told F.file F.load_faults F.store_faults folder.old folder.new) (sink_call O.is_told O.taken O.faults out.old out.new) result }
+    // The state at a clock.
+    ensures show { ShowHolds (request_of (map string_bytes words.now)) (folder_call F.is_told F.file F.load_faults F.store_faults folder.old folder.new) (sink_call O.is_told O.taken O.faults out.old out.new) result }
+    // A finished run of a schedule.
+    ensures run { RunHolds (request_of (map string_bytes words.now)) (folder_call F.is_told F.file F.load_faults F.store_faults folder.old folder.new) (sink_call O.is_told O.taken O.faults out.old out.new) result }
+    // A finished derivation.
+    ensures derive { DeriveHolds (request_of (map string_bytes words.now)) (folder_call F.is_told F.file F.load_faults F.store_faults folder.old folder.new) (sink_call O.is_told O.taken O.faults out.old out.new) result }
+    // A finished search.
+    ensures seek { SeekHolds (request_of (map string_bytes words.now)) (folder_call F.is_told F.file F.load_faults F.store_faults folder.old folder.new) (sink_call O.is_told O.taken O.faults out.old out.new) result }
+    // A finished isolation.
+    ensures isolation { IsolationHolds (request_of (map string_bytes words.now)) (folder_call F.is_told F.file F.load_faults F.store_faults folder.old folder.new) (sink_call O.is_told O.taken O.faults out.old out.new) result }
+    // A finished drill.
+    ensures drill { DrillHolds (request_of (map string_bytes words.now)) (folder_call F.is_told F.file F.load_faults F.store_faults folder.old folder.new) (sink_call O.is_told O.taken O.faults out.old out.new) result }
     // When each status comes, and what it prints and leaves.
-    ensures answer { Answers (command_of (map string_bytes words.now)) (folder_call F.is_told F.file F.load_faults F.store_faults folder.old folder.new) (sink_call O.is_told O.taken O.faults out.old out.new) result }
+    ensures answer { Answers (request_of (map string_bytes words.now)) (folder_call F.is_told F.file F.load_faults F.store_faults folder.old folder.new) (sink_call O.is_told O.taken O.faults out.old out.new) result }
     // Where nothing stands in the way, the status is `Ok`, unless memory runs out.
-    ensures complete { IsComplete (command_of (map string_bytes words.now)) (folder_call F.is_told F.file F.load_faults F.store_faults folder.old folder.new) (sink_call O.is_told O.taken O.faults out.old out.new) result }
+    ensures complete { IsComplete (request_of (map string_bytes words.now)) (folder_call F.is_told F.file F.load_faults F.store_faults folder.old folder.new) (sink_call O.is_told O.taken O.faults out.old out.new) result }
 {
-    answered(alloc, words, folder, out)
+    answered(rt, alloc, words, folder, out)
 }

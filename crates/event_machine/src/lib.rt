@@ -5,6 +5,3 @@ mod machine;
 mod threads;
 
 pub use machine::{Machine, TurnFault};
-
-#[cfg(test)]
-mod tests;

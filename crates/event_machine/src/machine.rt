@@ -1,6 +1,7 @@
 ghost use Rattle.std.specs.Prelude.{◌≡◌, ◌^◌, ◌+◌, ◌++◌, ◌∷◌, [], None, Some, ◌<◌, ◌≤◌, ℕ, find, true, false, IfOk, IfErr, OnOk, OnErr, IfNone, IfSome, IsTrue, length, not, ◌-◌, ◌==◌};
 ghost use Rattle.std.specs.List.{list_any, range_with_len};
 ghost use Rattle.std.specs.Option.{option_or};
+ghost use Rattle.vm_model.specs.declared.limits.TheConstants.{MOST_EVENTS, MOST_THREADS};
 ghost use Rattle.vm_model.specs.Program.{PlainProgram};
 ghost use Rattle.machine_model.specs.Shared.{is_live};
 ghost use Rattle.machine_model.specs.Machine.{end_of, first_end, has_ended, is_enabled, start_machine, turn};
@@ -95,10 +96,10 @@ impl Machine {
     ghost use Rattle.event_machine.specs.MachineView.{IsMachineOf, machine_of, may_turn, shown_end, shown_pick};
     ghost use Rattle.event_machine.specs.Turns.{Refuses, Turned};
 
-    /// The machine at the start of a program, for so many events, from 1 to 1,048,576.
+    /// The machine at the start of a program, for so many events, from 1 to `MOST_EVENTS`.
     pub fn new(alloc: Global, plain: &Plain, events: u64) -> Result<Machine, NoMemory>
         requires some { 1 ≤ events }
-        requires limit { events ≤ 1048576 }
+        requires limit { events ≤ MOST_EVENTS }
         ensures start { IfOk result (λ m. machine_of m ≡ start_machine plain.now) }
         ensures own { IfOk result (IsMachineOf plain.now) }
         ensures budget { IfOk result (λ m. m.world.budget ≡ events) }
@@ -204,7 +205,7 @@ impl Machine {
     /// How many threads were started.
     fn thread_count(&self) -> u32
         ensures value { result ≡ length self.now.world.shared.rows }
-        ensures few { result ≤ 64 }
+        ensures few { result ≤ MOST_THREADS }
     {
         self.world().rows()
     }

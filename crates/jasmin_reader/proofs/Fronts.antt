@@ -2,7 +2,7 @@
 use Rattle.std.proofs.Common.{List, ◌++◌, Result, Ok, Err}
 use Rattle.jasmin_reader.specs.declared.fault.Refusal.{Refusal}
 
--- what is read behind what was read already
+-- what is read after what was read already
 abbrev pub with_front : {A : Type 0} → List A → Result (List A) Refusal → Result (List A) Refusal
 with_front front (Ok xs) = Ok (front ++ xs)
 with_front front (Err f) = Err f

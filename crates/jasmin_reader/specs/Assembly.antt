@@ -1,4 +1,4 @@
--- Classes from the forms of lines. Each form is added to what the forms behind it give.
+-- Classes from the forms of lines. Each form is added to what the forms after it give.
 use Rattle.std.specs.Prelude.{ℕ, List, [], ◌∷◌, Option, Some, None}
 use Rattle.jasmin_reader.specs.declared.class_text.NameAt.{NameAt}
 use Rattle.jasmin_reader.specs.declared.class_text.CatchText.{CatchText}

@@ -25,7 +25,7 @@ operand_text (operand.Number n) = signed_decimal n
 operand_text (operand.Word word) = word
 operand_text (operand.Text text) = quoted text
 
--- words with a space before or behind each
+-- words with a space before or after each
 abbrev pub spaced_operand : Operand → List ℕ
 spaced_operand x = codes " " ++ operand_text x
 

@@ -63,13 +63,13 @@ name_at line words = do
   name ← class_name_of word
   Ok (record { line = line; name = name })
 
--- an int that comes behind an equals sign at the end, and what comes before that
-abbrev pub behind_sign : List Lexeme → ℤ → Result (List Lexeme × Lexeme) ReadKind → List Lexeme × Option ℤ
-behind_sign words n (Err kind) = (words, None)
-behind_sign words n (Ok last) = if is_word (codes "=") last.1 then (last.0, Some n) else (words, None)
+-- an int that comes after an equals sign at the end, and what comes before that
+abbrev pub after_sign : List Lexeme → ℤ → Result (List Lexeme × Lexeme) ReadKind → List Lexeme × Option ℤ
+after_sign words n (Err kind) = (words, None)
+after_sign words n (Ok last) = if is_word (codes "=") last.1 then (last.0, Some n) else (words, None)
 
 abbrev pub valued_by : List Lexeme → Result (List Lexeme × Lexeme) ReadKind → List Lexeme × Option ℤ
-valued_by words (Ok (front, lexeme.Number n)) = behind_sign words n (split_last front)
+valued_by words (Ok (front, lexeme.Number n)) = after_sign words n (split_last front)
 valued_by words _ = (words, None)
 
 abbrev pub valued : List Lexeme → List Lexeme × Option ℤ
@@ -85,7 +85,7 @@ field_of line words value = do
   name ← name_of before.1
   Ok (form.Field (record { line = line; flags = flags; name = name; desc = desc; value = value }))
 
--- the same with `= NUMBER` behind it or not
+-- the same with `= NUMBER` after it or not
 abbrev pub field_form : ℕ → List Lexeme → Result Form ReadKind
 field_form line words = field_of line (valued words).0 (valued words).1
 

@@ -100,7 +100,7 @@ labelled labels s = record {
   labels = s.labels ++ labels;
 }
 
--- what has begun behind a line
+-- what has begun after a line
 abbrev pub next_state : Form → PlainState → PlainState
 next_state (form.Class c) s = class_begun
 next_state (form.Super name) s = super_said s
@@ -133,7 +133,7 @@ lacks_super s = s.has_class && not s.has_super
 abbrev pub has_label : PlainState → List (List ℕ) → Bool
 has_label s labels = list_any (λ label. list_any (bytes_eq label) s.labels) labels
 
--- the least fault of a line that has its form, by what has begun, and by whether a method ends behind it
+-- the least fault of a line that has its form, by what has begun, and by whether a method ends after it
 abbrev pub misplaced : Bool → PlainState → Form → Option ReadKind
 misplaced ends s form.Skipped = None
 misplaced ends s (form.Interface line) = outside_methods s None

@@ -1,5 +1,6 @@
 -- Instructions in their canonical form.
-use Rattle.std.specs.Prelude.{ℕ, Bool, false, if◌then◌else◌, List, [], ◌∷◌, codes, ℤ, pos, negsuc, Option, Some, None, Result, Ok, Err}
+use Rattle.std.specs.Prelude.{ℕ, ◌-◌, Bool, false, if◌then◌else◌, List, [], ◌∷◌, codes, ℤ, pos, negsuc, Option, Some, None, Result, Ok, Err}
+use Rattle.vm_model.specs.declared.limits.TheConstants.{MOST_LOCALS}
 use Rattle.jasmin_reader.specs.declared.class_text.Operand.{Operand}
 use Rattle.jasmin_reader.specs.declared.class_text.Operand.TheVariants as operand
 use Rattle.jasmin_reader.specs.declared.lexeme.Lexeme.{Lexeme}
@@ -54,13 +55,13 @@ push low high words = do
 unfoldable pub local : Access → List Lexeme → Result PlainSaid ReadKind
 local a words = do
   word ← one words
-  n ← number_of (pos 0) (pos 255) word
+  n ← number_of (pos 0) (pos (MOST_LOCALS - 1)) word
   Ok (on_local a n)
 
 unfoldable pub increment : List Lexeme → Result PlainSaid ReadKind
 increment words = do
   pair ← two words
-  n ← number_of (pos 0) (pos 255) pair.0
+  n ← number_of (pos 0) (pos (MOST_LOCALS - 1)) pair.0
   by ← number_of (negsuc 127) (pos 127) pair.1
   Ok (with_two (codes "iinc") (operand.Number n) (operand.Number by))
 

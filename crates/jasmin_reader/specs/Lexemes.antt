@@ -31,10 +31,10 @@ filled number [] = []
 filled number (word ∷ words) = record { number = number; words = word ∷ words } ∷ []
 
 -- the lines that end among these tokens, where the first of them has these words already
-unfoldable pub lines_behind : List ℕ → List Lexeme → List Token → List PlainLine
-lines_behind text words [] = []
-lines_behind text words (t ∷ ts) =
+unfoldable pub lines_after : List ℕ → List Lexeme → List Token → List PlainLine
+lines_after text words [] = []
+lines_after text words (t ∷ ts) =
     elim (lexeme_of text t) [
-      | Some word ↦ lines_behind text (words ++ word ∷ []) ts
-      | None ↦ filled t.line words ++ lines_behind text [] ts
+      | Some word ↦ lines_after text (words ++ word ∷ []) ts
+      | None ↦ filled t.line words ++ lines_after text [] ts
     ]

@@ -1,4 +1,4 @@
-// Classes from the forms of lines, from the last one to the first: a label belongs to the instruction behind it.
+// Classes from the forms of lines, from the last one to the first: a label belongs to the instruction after it.
 ghost use Rattle.std.specs.Prelude.{◌≡◌, [], IfOk, OnOk};
 ghost use Rattle.jasmin_reader.specs.Assembly as spec;
 ghost use Rattle.jasmin_reader.specs.Directives.{empty_class};
@@ -51,7 +51,7 @@ impl Model for Members {
     ghost view = { λ m. record { super_line = m.super_line; super_name = m.super_name; implements = reverse m.implements.items; fields = reverse m.fields.items; methods = reverse m.methods.items } };
 }
 
-/// What the lines behind give, the last first.
+/// What the lines after give, the last first.
 #[derive(Debug, Drop)]
 struct Parts {
     body: Body,

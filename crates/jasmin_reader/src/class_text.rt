@@ -3,7 +3,7 @@
 use std::marker::Model;
 use vm_model::Name;
 
-/// What stands behind a mnemonic: a number, a word (a label, a class, a member, a descriptor), or a text.
+/// What stands after a mnemonic: a number, a word (a label, a class, a member, a descriptor), or a text.
 #[derive(Debug, Drop)]
 pub enum Operand {
     Number(i32),
@@ -66,7 +66,7 @@ impl Model for FieldText {
 }
 
 /// A method: its limits where the text has them, in words of the operand stack and in local variables; its instructions; and
-/// the labels behind the last one.
+/// the labels after the last one.
 #[derive(Debug, Drop)]
 pub struct MethodText {
     pub line: u32,

@@ -13,7 +13,7 @@ pub enum ReadKind {
     NoClass,
     /// A first word that begins with a dot is none of the directives.
     BadDirective,
-    /// The first word of a line, or the word behind a label, is no mnemonic.
+    /// The first word of a line, or the word after a label, is no mnemonic.
     BadMnemonic,
     /// The words of a line are too few, too many, in another order or of another form than the line asks for, or a number is out
     /// of its range.
@@ -30,7 +30,7 @@ pub enum ReadKind {
     LabelTwice,
     /// A method has no `.end method`: at the line of its `.method`.
     EndMissing,
-    /// The text has more than 1,048,576 bytes: at line 0.
+    /// The text has more than `MOST_TEXT_BYTES` bytes: at line 0.
     TooMany,
     /// A class has a second `.super`, or a method a second `.limit` of one kind.
     Repeat,

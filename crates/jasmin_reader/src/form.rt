@@ -50,7 +50,7 @@ fn unlabelled_form(alloc: Global, line: u32, words: &[Lexeme]) -> Result<Form, F
     }))
 }
 
-/// A label, and the instruction behind it if there is one.
+/// A label, and the instruction after it if there is one.
 #[tactic(auto, unfolding(crate::specs::Forms::labelled_form))]
 fn labelled_form(
     alloc: Global,

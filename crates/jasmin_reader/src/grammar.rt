@@ -188,7 +188,7 @@ impl State {
         Ok(())
     }
 
-    /// What has begun behind a line whose labels are new.
+    /// What has begun after a line whose labels are new.
     pub fn go_on(&mut self, alloc: Global, form: &Form) -> Result<(), NoMemory>
         requires { are_new self.old.labels (labels_in form.now) ≡ true }
         ensures { OnOk result (self.new ≡ spec.next_state form.now self.old) }

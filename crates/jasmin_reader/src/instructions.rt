@@ -13,7 +13,7 @@ use crate::names::{class_name_of, described, is_field, is_method, name_of, named
 use crate::words::{copied, is, is_word, none, number_of, one, two, word_of};
 use std::alloc::Global;
 use std::marker::Model;
-use vm_model::Name;
+use vm_model::{MOST_LOCALS, Name};
 
 /// A mnemonic with its operands.
 #[derive(Debug, Drop)]
@@ -127,7 +127,7 @@ fn local(alloc: Global, access: Access, words: &[Lexeme]) -> Result<Said, FormEr
     ensures { Gives (λ x. x) result (spec.local access words.now) }
 {
     let word = one(words)?;
-    let n = number_of(0, 255, word)?;
+    let n = number_of(0, MOST_LOCALS as i32 - 1, word)?;
     on_local(alloc, access, n)
 }
 
@@ -136,7 +136,7 @@ fn increment(alloc: Global, words: &[Lexeme]) -> Result<Said, FormError>
     ensures { Gives (λ x. x) result (spec.increment words.now) }
 {
     let (first, second) = two(words)?;
-    let n = number_of(0, 255, first)?;
+    let n = number_of(0, MOST_LOCALS as i32 - 1, first)?;
     let by = number_of(-128, 127, second)?;
     with_operands(alloc, b"iinc", Operand::Number(n), Operand::Number(by))
 }

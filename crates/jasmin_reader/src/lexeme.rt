@@ -49,10 +49,10 @@ fn lexeme_of(alloc: Global, text: &[u8], token: &Token) -> Result<Option<Lexeme>
 }
 
 /// The lines of a text that aren't blank.
-#[tactic(auto, unfolding(crate::specs::Lexemes::lines_behind))]
+#[tactic(auto, unfolding(crate::specs::Lexemes::lines_after))]
 pub fn lines_of(alloc: Global, text: &[u8], tokens: &[Token]) -> Result<Vec<Line>, NoMemory>
     requires { AllByRecursion (spec.IsWithin (length text.now)) tokens.now }
-    ensures { IfOk result (λ v. v.items ≡ spec.lines_behind text.now [] tokens.now) }
+    ensures { IfOk result (λ v. v.items ≡ spec.lines_after text.now [] tokens.now) }
 {
     let mut lines = Vec::new(alloc);
     let mut words = Vec::new(alloc);

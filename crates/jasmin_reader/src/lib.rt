@@ -13,8 +13,6 @@ mod lexeme;
 mod mnemonic;
 mod names;
 mod read;
-#[cfg(test)]
-mod tests;
 mod words;
 mod writing;
 

@@ -15,9 +15,9 @@ use jasmin_text::Token;
 use std::alloc::Global;
 
 /// The forms of the lines, or the first fault.
-#[tactic(auto, unfolding(crate::specs::Reading::forms_behind))]
+#[tactic(auto, unfolding(crate::specs::Reading::forms_after))]
 fn forms_of(alloc: Global, last: u32, lines: &[Line]) -> Result<Vec<Form>, ReadFault>
-    ensures { MatchResult result (λ v. spec.forms_behind last nothing_begun lines.now ≡ Ok v.items) (Refuses (spec.forms_behind last nothing_begun lines.now)) }
+    ensures { MatchResult result (λ v. spec.forms_after last nothing_begun lines.now ≡ Ok v.items) (Refuses (spec.forms_after last nothing_begun lines.now)) }
 {
     let mut state = State::new(alloc);
     let mut forms = Vec::new(alloc);

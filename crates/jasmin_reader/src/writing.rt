@@ -347,7 +347,7 @@ fn put_classes(out: &mut Vec<u8>, items: &[ClassText]) -> Result<(), NoMemory>
 }
 
 /// The canonical text of classes: one item a line, single spaces, each line ended by a line feed. Flags stand in a fixed order,
-/// labels on lines of their own, pushes of an int are `ldc`, local variables are operands, and `.catch` lines stand behind
+/// labels on lines of their own, pushes of an int are `ldc`, local variables are operands, and `.catch` lines stand after
 /// the last label.
 #[tactic(auto, unfolding(crate::specs::Canonical::canonical))]
 pub fn write_classes(alloc: Global, classes: &[ClassText]) -> Result<Vec<u8>, NoMemory>

@@ -13,10 +13,10 @@ use Rattle.jasmin_text.specs.declared.token.Token.{Token}
 use Rattle.jasmin_text.specs.declared.token.TokenKind.{TokenKind}
 use Rattle.jasmin_text.specs.declared.token.TokenKind.TheVariants as token
 use Rattle.jasmin_text.specs.Numbers.{is_number, number_of}
-use Rattle.jasmin_text.specs.Pieces.{is_white, is_high, turn_of, turned, with_byte, string_behind, word_at, kind_of_word, numbered, word_piece, string_piece, piece_at}
+use Rattle.jasmin_text.specs.Pieces.{is_white, is_high, turn_of, turned, with_byte, string_after, word_at, kind_of_word, numbered, word_piece, string_piece, piece_at}
 use Rattle.jasmin_text.specs.Places.{along, next_line, first_place}
 use Rattle.jasmin_text.specs.Spans.{BeginsWhite, IsWord, Says, slice_of, IsOf}
-use Rattle.jasmin_text.specs.Texts.{Spoiled, with_front, with_piece, token_at, line_end, left_of_line, tokens_behind, tokens_of}
+use Rattle.jasmin_text.specs.Texts.{Spoiled, with_front, with_piece, token_at, line_end, left_of_line, tokens_after, tokens_of}
 use Rattle.jasmin_text.proofs.InOrder.{OfTokens}
 use Rattle.jasmin_text.proofs.Skipping.{left-le}
 use Rattle.jasmin_text.proofs.Within.{chosen, StringWithin, string-within}
@@ -95,13 +95,13 @@ word-length bytes = sym (length-take-le (position_or_len is_white bytes) bytes (
 
 -- a string is read again from its own bytes alone
 abbrev IsAlone : Bool → ℕ → List ℕ → Result (List ℕ × ℕ) Broken → Type 0
-IsAlone e n rest (Ok s) = string_behind e n (take (s.1 - n) rest) ≡ Ok s
+IsAlone e n rest (Ok s) = string_after e n (take (s.1 - n) rest) ≡ Ok s
 IsAlone e n rest (Err f) = Unit {0}
 
 -- one more byte at the front, where k of the rest are the string's own
-one-more : (e : Bool) (n b k m : ℕ) (rest : List ℕ) (r : Result (List ℕ × ℕ) Broken) → m - n ≡ suc k → turned n (string_behind true (n + 1) (take k rest)) (string_behind false (n + 1) (take k rest)) (turn_of e n b) ≡ r → string_behind e n (take (m - n) (b ∷ rest)) ≡ r
-unfolding string_behind
-one-more e n b k m rest r same h = subst (λ (i : ℕ). string_behind e n (take i (b ∷ rest)) ≡ r) (sym same) h
+one-more : (e : Bool) (n b k m : ℕ) (rest : List ℕ) (r : Result (List ℕ × ℕ) Broken) → m - n ≡ suc k → turned n (string_after true (n + 1) (take k rest)) (string_after false (n + 1) (take k rest)) (turn_of e n b) ≡ r → string_after e n (take (m - n) (b ∷ rest)) ≡ r
+unfolding string_after
+one-more e n b k m rest r same h = subst (λ (i : ℕ). string_after e n (take i (b ∷ rest)) ≡ r) (sym same) h
 
 escape-alone : (e : Bool) (n b : ℕ) (rest : List ℕ) (r : Result (List ℕ × ℕ) Broken) → turn_of e n b ≡ Ok turn.Backslash → StringWithin (n + 1) (length rest) r → IsAlone true (n + 1) rest r → IsAlone e n (b ∷ rest) r
 escape-alone e n b rest (Ok s) h w a = one-more e n b (s.1 - (n + 1)) s.1 rest (Ok s) (omega (arith, w.0)) (rw h a)
@@ -117,16 +117,16 @@ turn-alone e n b rest x y (Ok turn.Backslash) h wx wy hx hy = escape-alone e n b
 turn-alone e n b rest x y (Ok (turn.Byte c)) h wx wy hx hy = byte-alone e n b c rest y h wy hy
 turn-alone e n b rest x y (Err f) h wx wy hx hy = tt
 
-string-alone : (e : Bool) (n : ℕ) (rest : List ℕ) → IsAlone e n rest (string_behind e n rest)
-unfolding string_behind
+string-alone : (e : Bool) (n : ℕ) (rest : List ℕ) → IsAlone e n rest (string_after e n rest)
+unfolding string_after
 string-alone e n [] = tt
-string-alone e n (b ∷ rest) = turn-alone e n b rest (string_behind true (n + 1) rest) (string_behind false (n + 1) rest) (turn_of e n b) refl (string-within true (n + 1) rest) (string-within false (n + 1) rest) (string-alone true (n + 1) rest) (string-alone false (n + 1) rest)
+string-alone e n (b ∷ rest) = turn-alone e n b rest (string_after true (n + 1) rest) (string_after false (n + 1) rest) (turn_of e n b) refl (string-within true (n + 1) rest) (string-within false (n + 1) rest) (string-alone true (n + 1) rest) (string-alone false (n + 1) rest)
 
 string-says : (b : ℕ) (rest : List ℕ) (r : Result (List ℕ × ℕ) Broken) → b ≡ 34 → StringWithin 1 (length rest) r → IsAlone false 1 rest r → IsPieceOf (b ∷ rest) (string_piece r)
 string-says b rest (Ok s) q w a =
     let one : suc (s.1 - 1) ≡ s.1 = omega (arith, w.0) in
     let size : s.1 ≡ length (take (s.1 - 1) rest) + 1 = omega (arith, w.0, w.1, length-take-le (s.1 - 1) rest (omega (arith, w.1))) in
-    let alone : string_behind false 1 (take (s.1 - 1) rest) ≡ Ok (s.0, length (take (s.1 - 1) rest) + 1) = a ∙ ap (λ (m : ℕ). Ok (s.0, m)) size in
+    let alone : string_after false 1 (take (s.1 - 1) rest) ≡ Ok (s.0, length (take (s.1 - 1) rest) + 1) = a ∙ ap (λ (m : ℕ). Ok (s.0, m)) size in
     subst (λ (m : ℕ). Says (token.Str s.0) (take m (b ∷ rest)) (drop m (b ∷ rest))) one (q, alone)
 string-says b rest (Err f) q w a = tt
 
@@ -135,7 +135,7 @@ string-says b rest (Err f) q w a = tt
 is-piece : (b : ℕ) (rest : List ℕ) → is_white b ≡ false → IsPieceOf (b ∷ rest) (piece_at (b ∷ rest))
 is-piece b rest dark =
     tested (IsPieceOf (b ∷ rest)) (nat_eq b 34) _ _
-    (λ (q : nat_eq b 34 ≡ true). string-says b rest (string_behind false 1 rest) (is b 34 q) (string-within false 1 rest) (string-alone false 1 rest))
+    (λ (q : nat_eq b 34 ≡ true). string-says b rest (string_after false 1 rest) (is b 34 q) (string-within false 1 rest) (string-alone false 1 rest))
     (λ (q : nat_eq b 34 ≡ false). subst (λ (n : ℕ). IsPieceOf (b ∷ rest) (word_piece n (kind_of_word (word_at (b ∷ rest))))) (word-length (b ∷ rest)) (word-says b rest (kind_of_word (word_at (b ∷ rest))) q dark refl (of-word (word_at (b ∷ rest)))))
 
 -- the same where the bytes stand in a text
@@ -159,8 +159,8 @@ piece-sliced : (text bytes : List ℕ) (p : Place) (behind : ℕ → Result (Lis
 piece-sliced text bytes p behind (Ok piece) e says h = with-token (IsOf text) (token_at p piece) (behind piece.length) (placed text bytes piece.kind p.offset piece.length e says) (h piece.length)
 piece-sliced text bytes p behind (Err f) e says h = tt
 
-sliced : (text : List ℕ) (n : ℕ) (is_open : Bool) (p : Place) (rest : List ℕ) → drop p.offset text ≡ rest → OfTokens (AllByRecursion (IsOf text)) (tokens_behind n is_open p rest)
-unfolding tokens_behind
+sliced : (text : List ℕ) (n : ℕ) (is_open : Bool) (p : Place) (rest : List ℕ) → drop p.offset text ≡ rest → OfTokens (AllByRecursion (IsOf text)) (tokens_after n is_open p rest)
+unfolding tokens_after
 sliced text n is_open p [] e =
     chosen (AllByRecursion (IsOf text)) (nat_eq p.column 1) _ _
     tt
@@ -169,12 +169,12 @@ sliced text (suc n) is_open p (b ∷ rest) e = sliced text n is_open (along 1 p)
 sliced text zero is_open p (b ∷ rest) e =
     let on : drop (p.offset + 1) text ≡ rest = next text p.offset b rest e in
     tested (OfTokens (AllByRecursion (IsOf text))) (nat_eq b 10) _ _
-    (λ (feed : nat_eq b 10 ≡ true). with-token (IsOf text) (line_end p 1) (tokens_behind 0 true (next_line p) rest) (placed text (b ∷ rest) token.LineEnd p.offset 1 e (is b 10 feed, refl)) (sliced text 0 true (next_line p) rest on))
+    (λ (feed : nat_eq b 10 ≡ true). with-token (IsOf text) (line_end p 1) (tokens_after 0 true (next_line p) rest) (placed text (b ∷ rest) token.LineEnd p.offset 1 e (is b 10 feed, refl)) (sliced text 0 true (next_line p) rest on))
     (λ (_ : nat_eq b 10 ≡ false). tested (OfTokens (AllByRecursion (IsOf text))) (is_white b) _ _
     (λ (_ : is_white b ≡ true). sliced text 0 true (along 1 p) rest on)
     (λ (dark : is_white b ≡ false). chosen (OfTokens (AllByRecursion (IsOf text))) (is_open && nat_eq b 59) _ _
     (sliced text (left_of_line rest) true (along 1 p) rest on)
-    (piece-sliced text (b ∷ rest) p (λ n. tokens_behind (n - 1) false (along 1 p) rest) (piece_at (b ∷ rest)) e (is-piece b rest dark)
+    (piece-sliced text (b ∷ rest) p (λ n. tokens_after (n - 1) false (along 1 p) rest) (piece_at (b ∷ rest)) e (is-piece b rest dark)
     (λ (m : ℕ). sliced text (m - 1) false (along 1 p) rest on))))
 
 pub slices : (text : List ℕ) (ts : List Token) → tokens_of text ≡ Ok ts → AllByRecursion (IsOf text) ts

@@ -1,4 +1,4 @@
--- No piece reaches behind the bytes that it is cut from, and no fault of a piece stands behind them.
+-- No piece reaches beyond the bytes that it is cut from, and no fault of a piece stands after them.
 use Rattle.std.proofs.Common.{◌≡◌, ℕ, suc, ◌+◌, ◌≤◌, Bool, true, false, List, [], ◌∷◌, Result, Ok, Err, Option, Some, None, length, get_or, refl, arith, cond, nat_eq, position, ℤ, subst}
 use Rattle.std.proofs.lemmas.List.{length-take}
 use Rattle.std.specs.List.{position_or_len}
@@ -10,7 +10,7 @@ use Rattle.jasmin_text.specs.declared.strings.Turn.TheVariants as turn
 use Rattle.jasmin_text.specs.declared.token.TokenKind.{TokenKind}
 use Rattle.jasmin_text.specs.declared.token.TokenKind.TheVariants as token
 use Rattle.jasmin_text.specs.Numbers.{is_number, number_of}
-use Rattle.jasmin_text.specs.Pieces.{is_white, is_high, is_plain, escaped, turn_of, turned, with_byte, string_behind, behind_backslash, word_at, kind_of_word, numbered, word_piece, string_piece, piece_at}
+use Rattle.jasmin_text.specs.Pieces.{is_white, is_high, is_plain, escaped, turn_of, turned, with_byte, string_after, after_backslash, word_at, kind_of_word, numbered, word_piece, string_piece, piece_at}
 use Rattle.jasmin_text.proofs.Skipping.{position-found}
 
 -- what holds of both sides holds of the one that a test chooses
@@ -25,7 +25,7 @@ TurnWithin n (Err f) = f.before ≤ n
 turn-within : (e : Bool) (n b : ℕ) → TurnWithin n (turn_of e n b)
 turn-within true n b = by_escape (escaped b)
   where
-    by_escape : (o : Option ℕ) → TurnWithin n (behind_backslash n o)
+    by_escape : (o : Option ℕ) → TurnWithin n (after_backslash n o)
     by_escape (Some x) = tt
     by_escape None = omega arith
 turn-within false n b =
@@ -34,7 +34,7 @@ turn-within false n b =
     (chosen (TurnWithin n) (is_plain b) _ _ tt
     (chosen (TurnWithin n) (nat_eq b 10) _ _ (omega arith) (omega arith))))
 
--- a string's rest of so many bytes, behind n bytes
+-- a string's rest of so many bytes, after n bytes
 abbrev pub StringWithin : ℕ → ℕ → Result (List ℕ × ℕ) Broken → Type 0
 StringWithin n left (Ok s) = (n + 1 ≤ s.1) × (s.1 ≤ n + left)
 StringWithin n left (Err f) = f.before ≤ n + left
@@ -53,10 +53,10 @@ by_turn n left x y (Ok turn.Backslash) w hx hy = same n left x hx
 by_turn n left x y (Ok (turn.Byte b)) w hx hy = grown n left b y hy
 by_turn n left x y (Err f) w hx hy = omega (arith, w)
 
-pub string-within : (e : Bool) (n : ℕ) (rest : List ℕ) → StringWithin n (length rest) (string_behind e n rest)
-unfolding string_behind
+pub string-within : (e : Bool) (n : ℕ) (rest : List ℕ) → StringWithin n (length rest) (string_after e n rest)
+unfolding string_after
 string-within e n [] = omega arith
-string-within e n (b ∷ rest) = by_turn n (length rest) (string_behind true (n + 1) rest) (string_behind false (n + 1) rest) (turn_of e n b) (turn-within e n b) (string-within true (n + 1) rest) (string-within false (n + 1) rest)
+string-within e n (b ∷ rest) = by_turn n (length rest) (string_after true (n + 1) rest) (string_after false (n + 1) rest) (turn_of e n b) (turn-within e n b) (string-within true (n + 1) rest) (string-within false (n + 1) rest)
 
 -- ---- words
 
@@ -102,7 +102,7 @@ pub piece-within : (bytes : List ℕ) → PieceWithin (length bytes) (piece_at b
 piece-within [] = omega arith
 piece-within (b ∷ rest) =
     chosen (PieceWithin (length (b ∷ rest))) (nat_eq b 34) _ _
-    (of_string (length rest) (string_behind false 1 rest) (string-within false 1 rest))
+    (of_string (length rest) (string_after false 1 rest) (string-within false 1 rest))
     (of_word (length (word_at (b ∷ rest))) (length (b ∷ rest)) (kind_of_word (word_at (b ∷ rest))) (word-length (b ∷ rest)) (word-within (word_at (b ∷ rest))))
 
 -- a piece has a byte, where its first one is no white space
@@ -122,7 +122,7 @@ pub piece-some : (bytes : List ℕ) → 1 ≤ length bytes → is_white (get_or 
 piece-some [] h dark = absurd (omega arith)
 piece-some (b ∷ rest) h dark =
     chosen PieceSome (nat_eq b 34) _ _
-    (some_string (length rest) (string_behind false 1 rest) (string-within false 1 rest))
+    (some_string (length rest) (string_after false 1 rest) (string-within false 1 rest))
     (some_word (length (word_at (b ∷ rest))) (kind_of_word (word_at (b ∷ rest))) (word-some b rest dark))
 
 -- the same of what a piece is read as

@@ -11,12 +11,12 @@ abbrev pub is_number : List ℕ → Bool
 is_number [] = false
 is_number (b ∷ rest) = if b == 45 then is_digits rest else is_digits (b ∷ rest)
 
--- the number that decimal digits spell, behind those that spell n
-abbrev pub value_behind : ℕ → List ℕ → ℕ
-value_behind n digits = fold (λ (m b : ℕ). 10 * m + (b - 48)) n digits
+-- the number that decimal digits spell, after those that spell n
+abbrev pub value_after : ℕ → List ℕ → ℕ
+value_after n digits = fold (λ (m b : ℕ). 10 * m + (b - 48)) n digits
 
 abbrev pub value : List ℕ → ℕ
-value digits = value_behind 0 digits
+value digits = value_after 0 digits
 
 abbrev pub at_most : ℕ → List ℕ → Option ℕ
 at_most most digits = if is_digits digits && nat_le (value digits) most then Some (value digits) else None

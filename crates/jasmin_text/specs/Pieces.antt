@@ -51,13 +51,13 @@ escaped b =
     if b == 114 then Some 13 else
     if b == 34 || b == 39 || b == 92 then Some b else None
 
--- What the next byte of a string is, where n bytes of the string come before it: behind a backslash an escape goes on.
-abbrev pub behind_backslash : ℕ → Option ℕ → Result Turn Broken
-behind_backslash n (Some e) = Ok (turn.Byte e)
-behind_backslash n None = Err (record { kind = BadEscape; before = n - 1 })
+-- What the next byte of a string is, where n bytes of the string come before it: after a backslash an escape goes on.
+abbrev pub after_backslash : ℕ → Option ℕ → Result Turn Broken
+after_backslash n (Some e) = Ok (turn.Byte e)
+after_backslash n None = Err (record { kind = BadEscape; before = n - 1 })
 
 abbrev pub turn_of : Bool → ℕ → ℕ → Result Turn Broken
-turn_of true n b = behind_backslash n (escaped b)
+turn_of true n b = after_backslash n (escaped b)
 turn_of false n b =
     if b == 34 then Ok turn.End else
     if b == 92 then Ok turn.Backslash else
@@ -68,7 +68,7 @@ abbrev pub with_byte : ℕ → Result (List ℕ × ℕ) Broken → Result (List 
 with_byte b (Err fault) = Err fault
 with_byte b (Ok string) = Ok (b ∷ string.0, string.1)
 
--- what a turn makes of the string's rest, read behind a backslash or not
+-- what a turn makes of the string's rest, read after a backslash or not
 abbrev pub turned : ℕ → Result (List ℕ × ℕ) Broken → Result (List ℕ × ℕ) Broken → Result Turn Broken → Result (List ℕ × ℕ) Broken
 turned n escape rest (Ok turn.End) = Ok ([], n + 1)
 turned n escape rest (Ok turn.Backslash) = escape
@@ -76,9 +76,9 @@ turned n escape rest (Ok (turn.Byte b)) = with_byte b rest
 turned n escape rest (Err fault) = Err fault
 
 -- the text that a string's rest stands for, and how many bytes the string has in all, where n of them come before the rest
-unfoldable pub string_behind : Bool → ℕ → List ℕ → Result (List ℕ × ℕ) Broken
-string_behind is_escape n [] = Err (record { kind = OpenString; before = 0 })
-string_behind is_escape n (b ∷ rest) = turned n (string_behind true (n + 1) rest) (string_behind false (n + 1) rest) (turn_of is_escape n b)
+unfoldable pub string_after : Bool → ℕ → List ℕ → Result (List ℕ × ℕ) Broken
+string_after is_escape n [] = Err (record { kind = OpenString; before = 0 })
+string_after is_escape n (b ∷ rest) = turned n (string_after true (n + 1) rest) (string_after false (n + 1) rest) (turn_of is_escape n b)
 
 -- ---- pieces
 
@@ -94,4 +94,4 @@ word_piece n (Ok kind) = Ok (record { kind = kind; length = n })
 abbrev pub piece_at : List ℕ → Result Piece Broken
 piece_at [] = word_piece 0 (kind_of_word [])
 piece_at (b ∷ rest) =
-    if b == 34 then string_piece (string_behind false 1 rest) else word_piece (length (word_at (b ∷ rest))) (kind_of_word (word_at (b ∷ rest)))
+    if b == 34 then string_piece (string_after false 1 rest) else word_piece (length (word_at (b ∷ rest))) (kind_of_word (word_at (b ∷ rest)))

@@ -6,7 +6,7 @@ use Rattle.jasmin_text.specs.declared.place.Place.{Place}
 abbrev pub along : ℕ → Place → Place
 along n p = record { offset = p.offset + n; line = p.line; column = p.column + n }
 
--- behind a line feed
+-- after a line feed
 abbrev pub next_line : Place → Place
 next_line p = record { offset = p.offset + 1; line = p.line + 1; column = 1 }
 

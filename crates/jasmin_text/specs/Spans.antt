@@ -4,14 +4,14 @@ use Rattle.std.specs.List.{list_any}
 use Rattle.jasmin_text.specs.declared.token.Token.{Token}
 use Rattle.jasmin_text.specs.declared.token.TokenKind.{TokenKind}
 use Rattle.jasmin_text.specs.declared.token.TokenKind.TheVariants as token
-use Rattle.jasmin_text.specs.Pieces.{kind_of_word, is_white, string_behind}
+use Rattle.jasmin_text.specs.Pieces.{kind_of_word, is_white, string_after}
 
--- each token begins where the one before it ends, or behind that, and none reaches behind the end
+-- each token begins where the one before it ends, or after that, and none reaches beyond the end
 abbrev pub AreInOrder : ℕ → ℕ → List Token → Type 0
 AreInOrder from end [] = from ≤ end
 AreInOrder from end (t ∷ ts) = (from ≤ t.from) × (t.from ≤ t.to) × AreInOrder t.to end ts
 
--- ---- what the bytes of a token are, and what comes behind them in the text
+-- ---- what the bytes of a token are, and what comes after them in the text
 
 -- a line feed, or no byte at the text's end
 abbrev pub IsLineEnd : List ℕ → List ℕ → Type 0
@@ -28,10 +28,10 @@ abbrev pub IsWord : List ℕ → List ℕ → Type 0
 IsWord [] behind = ⊥
 IsWord (b ∷ rest) behind = (b ≢ 34) × (list_any is_white (b ∷ rest) ≡ false) × BeginsWhite behind
 
--- a quote, and behind it a string that the last byte closes
+-- a quote, and after it a string that the last byte closes
 abbrev pub IsString : List ℕ → List ℕ → Type 0
 IsString text [] = ⊥
-IsString text (b ∷ rest) = (b ≡ 34) × (string_behind false 1 rest ≡ Ok (text, length rest + 1))
+IsString text (b ∷ rest) = (b ≡ 34) × (string_after false 1 rest ≡ Ok (text, length rest + 1))
 
 abbrev pub Says : TokenKind → List ℕ → List ℕ → Type 0
 Says token.LineEnd bytes behind = IsLineEnd bytes behind

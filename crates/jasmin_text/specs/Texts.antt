@@ -44,24 +44,24 @@ abbrev pub with_front : List Token → Result (List Token) Spoiled → Result (L
 with_front front (Ok tokens) = Ok (front ++ tokens)
 with_front front (Err f) = Err f
 
--- a piece at a place, and the tokens behind it, which depend on its length
+-- a piece at a place, and the tokens after it, which depend on its length
 abbrev pub with_piece : Place → (ℕ → Result (List Token) Spoiled) → Result Piece Broken → Result (List Token) Spoiled
 with_piece p behind (Ok piece) = with_front (token_at p piece ∷ []) (behind piece.length)
 with_piece p behind (Err broken) = Err (spoiled p broken)
 
 -- The tokens of a text's rest, which begins at a place, where its first n bytes belong to a piece or a comment that is cut
 -- already. A semicolon begins a comment where the line begins or white space stands before it, which is where it is open.
-unfoldable pub tokens_behind : ℕ → Bool → Place → List ℕ → Result (List Token) Spoiled
-tokens_behind n is_open p [] = Ok (end_of_text p)
-tokens_behind (suc n) is_open p (b ∷ rest) = tokens_behind n is_open (along 1 p) rest
-tokens_behind zero is_open p (b ∷ rest) =
-    if b == 10 then with_front (line_end p 1 ∷ []) (tokens_behind 0 true (next_line p) rest) else
-    if is_white b then tokens_behind 0 true (along 1 p) rest else
-    if is_open && b == 59 then tokens_behind (left_of_line rest) true (along 1 p) rest else
-    with_piece p (λ n. tokens_behind (n - 1) false (along 1 p) rest) (piece_at (b ∷ rest))
+unfoldable pub tokens_after : ℕ → Bool → Place → List ℕ → Result (List Token) Spoiled
+tokens_after n is_open p [] = Ok (end_of_text p)
+tokens_after (suc n) is_open p (b ∷ rest) = tokens_after n is_open (along 1 p) rest
+tokens_after zero is_open p (b ∷ rest) =
+    if b == 10 then with_front (line_end p 1 ∷ []) (tokens_after 0 true (next_line p) rest) else
+    if is_white b then tokens_after 0 true (along 1 p) rest else
+    if is_open && b == 59 then tokens_after (left_of_line rest) true (along 1 p) rest else
+    with_piece p (λ n. tokens_after (n - 1) false (along 1 p) rest) (piece_at (b ∷ rest))
 
 unfoldable pub tokens_of : List ℕ → Result (List Token) Spoiled
-tokens_of text = tokens_behind 0 true first_place text
+tokens_of text = tokens_after 0 true first_place text
 
 -- ---- answers
 

@@ -12,7 +12,7 @@ use vm_model::NoMemory;
 pub enum TextKind {
     /// A byte of 128 or more in a word, or one in a string that may not stand there: at that byte.
     NotAscii,
-    /// A backslash in a string, and behind it none of `n`, `t`, `r`, `"`, `'` and `\`: at the backslash.
+    /// A backslash in a string, and after it none of `n`, `t`, `r`, `"`, `'` and `\`: at the backslash.
     BadEscape,
     /// A string that the line's end or the text's end leaves open: at its opening quote.
     OpenString,

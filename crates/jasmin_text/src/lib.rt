@@ -7,8 +7,6 @@ mod numbers;
 mod piece;
 mod place;
 mod strings;
-#[cfg(test)]
-mod tests;
 mod text;
 mod token;
 mod words;

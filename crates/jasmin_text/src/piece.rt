@@ -1,5 +1,6 @@
 // The next word or string of a text.
 ghost use Rattle.std.specs.Prelude.{◌≡◌, ◌≤◌, ◌<◌, length, IfOk};
+ghost use Rattle.vm_model.specs.declared.limits.TheConstants.{MOST_TEXT_BYTES};
 ghost use Rattle.jasmin_text.specs.Pieces as spec;
 ghost use Rattle.jasmin_text.specs.Cutting.{Gives};
 
@@ -18,7 +19,7 @@ pub struct Piece {
 }
 
 fn word_piece(bytes: &[u8]) -> Result<Piece, CutError>
-    requires { length bytes.now ≤ 1048576 }
+    requires { length bytes.now ≤ MOST_TEXT_BYTES }
     ensures { Gives (λ x. x) result (spec.word_piece (length (spec.word_at bytes.now)) (spec.kind_of_word (spec.word_at bytes.now))) }
 {
     let word = word_at(bytes);
@@ -33,7 +34,7 @@ fn word_piece(bytes: &[u8]) -> Result<Piece, CutError>
 
 /// The string that begins with a quote, or the word, at the front of these bytes.
 pub fn piece_at(alloc: Global, bytes: &[u8]) -> Result<Piece, CutError>
-    requires { length bytes.now ≤ 1048576 }
+    requires { length bytes.now ≤ MOST_TEXT_BYTES }
     ensures { Gives (λ x. x) result (spec.piece_at bytes.now) }
 {
     match bytes {

@@ -33,7 +33,7 @@ impl Place {
         }
     }
 
-    /// Behind a line feed that stands here.
+    /// After a line feed that stands here.
     pub fn next_line(self) -> Place
         requires offset { self.offset + 1 < 2 ^ 32 }
         requires line { self.line + 1 < 2 ^ 32 }

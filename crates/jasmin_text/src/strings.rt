@@ -1,5 +1,6 @@
 // Strings: what their bytes stand for.
 ghost use Rattle.std.specs.Prelude.{◌≡◌, ◌≤◌, true, false, length};
+ghost use Rattle.vm_model.specs.declared.limits.TheConstants.{MOST_TEXT_BYTES};
 ghost use Rattle.jasmin_text.specs.Pieces as spec;
 ghost use Rattle.jasmin_text.specs.Cutting.{Gives};
 
@@ -37,7 +38,7 @@ pub enum Turn {
     Byte(u8),
 }
 
-fn behind_backslash(passed: u32, b: u8) -> Result<Turn, Broken>
+fn after_backslash(passed: u32, b: u8) -> Result<Turn, Broken>
     requires { 1 ≤ passed }
     ensures { result ≡ spec.turn_of true passed b }
 {
@@ -56,7 +57,7 @@ fn turn_of(is_escape: bool, passed: u32, b: u8) -> Result<Turn, Broken>
     ensures { result ≡ spec.turn_of is_escape passed b }
 {
     if is_escape {
-        behind_backslash(passed, b)
+        after_backslash(passed, b)
     } else if b == b'"' {
         Ok(Turn::End)
     } else if b == b'\\' {
@@ -79,8 +80,8 @@ fn turn_of(is_escape: bool, passed: u32, b: u8) -> Result<Turn, Broken>
 /// The text of a string whose opening quote comes right before these bytes, and how many bytes the string has with its
 /// quotes.
 pub fn string_at(alloc: Global, bytes: &[u8]) -> Result<(Vec<u8>, u32), CutError>
-    requires { length bytes.now ≤ 1048576 }
-    ensures { Gives (λ x. (x.0.items, x.1)) result (spec.string_behind false 1 bytes.now) }
+    requires { length bytes.now ≤ MOST_TEXT_BYTES }
+    ensures { Gives (λ x. (x.0.items, x.1)) result (spec.string_after false 1 bytes.now) }
 {
     let mut text = Vec::new(alloc);
     let mut is_escape = false;

@@ -1,6 +1,7 @@
 // From a text to its tokens.
 ghost use Rattle.std.specs.Prelude.{◌≡◌, ◌≤◌, ◌<◌, ◌+◌, ◌^◌, ◌&&◌, ◌==◌, Ok, length, IfOk, MatchResult};
 ghost use Rattle.std.specs.List.{AllByRecursion};
+ghost use Rattle.vm_model.specs.declared.limits.TheConstants.{MOST_TEXT_BYTES};
 ghost use Rattle.jasmin_text.specs.Cutting.{GivesAt};
 ghost use Rattle.jasmin_text.specs.Pieces.{piece_at};
 ghost use Rattle.jasmin_text.specs.Spans.{AreInOrder, IsOf};
@@ -49,8 +50,8 @@ fn begins_comment(is_open: bool, b: u8) -> bool
 
 /// The piece that begins at a place, or where its fault stands.
 fn piece_there(alloc: Global, place: Place, bytes: &[u8]) -> Result<Piece, TextFault>
-    requires long { length bytes.now ≤ 1048576 }
-    requires column { place.column ≤ 1048577 }
+    requires long { length bytes.now ≤ MOST_TEXT_BYTES }
+    requires column { place.column ≤ MOST_TEXT_BYTES + 1 }
     ensures { GivesAt place result (piece_at bytes.now) }
 {
     match piece_at(alloc, bytes) {
@@ -66,7 +67,7 @@ fn piece_there(alloc: Global, place: Place, bytes: &[u8]) -> Result<Piece, TextF
 
 /// What the definition of a text's tokens says.
 fn cut(alloc: Global, text: &[u8]) -> Result<Vec<Token>, TextFault>
-    requires { length text.now ≤ 1048576 }
+    requires { length text.now ≤ MOST_TEXT_BYTES }
     ensures { MatchResult result (λ v. spec.tokens_of text.now ≡ Ok v.items) (spec.Refuses (spec.tokens_of text.now)) }
 {
     let mut found = Vec::new(alloc);
@@ -111,9 +112,9 @@ fn cut(alloc: Global, text: &[u8]) -> Result<Vec<Token>, TextFault>
 /// that of the Jasmin assembler.
 ///
 /// A text with a fault has no tokens: the answer is its first fault in the order of the bytes, where a number's range is
-/// judged behind all bytes of its word.
+/// judged after all bytes of its word.
 pub fn tokens(alloc: Global, text: &[u8]) -> Result<Vec<Token>, TextFault>
-    requires { length text.now ≤ 1048576 }
+    requires { length text.now ≤ MOST_TEXT_BYTES }
     ensures read { MatchResult result (λ v. spec.tokens_of text.now ≡ Ok v.items) (spec.Refuses (spec.tokens_of text.now)) }
     ensures spans { IfOk result (λ v. AreInOrder 0 (length text.now) v.items) }
     ensures slices { IfOk result (λ v. AllByRecursion (IsOf text.now) v.items) }

@@ -1,6 +1,7 @@
 // Words: up to where each goes, and what it is.
 ghost use Rattle.std.specs.Prelude.{◌≡◌, ◌≤◌, ◌==◌, position, length};
 ghost use Rattle.std.specs.List.{position_or_len};
+ghost use Rattle.vm_model.specs.declared.limits.TheConstants.{MOST_TEXT_BYTES};
 ghost use Rattle.jasmin_text.specs.Pieces as spec;
 ghost use Rattle.jasmin_text.specs.Texts.{left_of_line};
 
@@ -55,7 +56,7 @@ pub fn word_at(bytes: &[u8]) -> &[u8]
 
 /// What a word is, or its first fault.
 pub fn kind_of_word(word: &[u8]) -> Result<TokenKind, Broken>
-    requires { length word.now ≤ 1048576 }
+    requires { length word.now ≤ MOST_TEXT_BYTES }
     ensures { result ≡ spec.kind_of_word word.now }
 {
     if let Some(before) = find_high(word) {

@@ -1,7 +1,8 @@
 -- What linking a line gives: instructions that the laws of verified programs allow, and that name what is there.
-use Rattle.std.proofs.Common.{◌≡◌, ℕ, Bool, true, false, List, [], ◌∷◌, Option, Some, None, Result, Ok, Err, refl, arith}
+use Rattle.std.proofs.Common.{◌≡◌, ℕ, zero, suc, Bool, true, false, List, [], ◌∷◌, Option, Some, None, Result, Ok, Err, refl, arith}
 use Rattle.std.specs.Prelude.{ℤ, unsigned_abs, IsTrue, not, ◌&&◌, ◌||◌, if◌then◌else◌, ◌==◌, nat_lt, length, bytes_eq, codes, is_some}
 use Rattle.std.specs.List.{AllByRecursion, list_all}
+use Rattle.std.proofs.lemmas.Bool.{false≢true}
 use Rattle.std.proofs.lemmas.Bool.Decides.{nat_tests}
 use Rattle.vm_model.specs.declared.instr.Instr.{Instr}
 use Rattle.vm_model.specs.declared.instr.Instr.TheVariants as instr
@@ -15,9 +16,10 @@ use Rattle.class_linker.specs.declared.fault.LinkKind.TheVariants as kinds
 use Rattle.class_linker.specs.declared.names.Names.{Names}
 use Rattle.class_linker.specs.Index.{Rows, value_of}
 use Rattle.class_linker.specs.Lines.{◌>>=◌, or_fault}
-use Rattle.class_linker.specs.BuiltIn as built_in
+use Rattle.built_in_classes.specs.Classes as built_in
+use Rattle.built_in_classes.specs.Classes.{has_constructor, has_text_constructor}
 use Rattle.class_linker.specs.Words.{field_key}
-use Rattle.class_linker.specs.BuiltIn.{has_lock, lock_member, thread_member, stream_member, has_constructor, has_text_constructor, constructor, first_some, of_lock, of_thread, of_stream, instance_member}
+use Rattle.class_linker.specs.BuiltIn.{has_lock, lock_member, thread_member, stream_member, constructor, first_some, of_lock, of_thread, of_stream, instance_member}
 use Rattle.class_linker.specs.Descriptors.{class_of}
 use Rattle.class_linker.specs.Calls.{static_call, virtual_run, virtual_member, virtual_call, special_member, special_call, call_by, target_of, call, read_static, to_slot, field_by, field_class, field, is_run, is_out}
 use Rattle.class_linker.specs.Linked.{row_of, alone, int_jump, pair_jump, other_jump, or_else, jump_to, numbered, texted, made, jumped, worded, is_call, linked_by, linked}
@@ -127,11 +129,21 @@ instance_fine p class is_thread m run =
 
 -- texts and the stream have no constructor
 constructor_apart : (class : ℕ) → has_constructor class ≡ true → not (class == 3 || class == 4) ≡ true
-constructor_apart class h = grind (arith, nat_tests)
+constructor_apart zero h = refl
+constructor_apart (suc zero) h = refl
+constructor_apart (suc (suc zero)) h = refl
+constructor_apart (suc (suc (suc zero))) h = absurd (false≢true h)
+constructor_apart (suc (suc (suc (suc zero)))) h = absurd (false≢true h)
+constructor_apart (suc (suc (suc (suc (suc n))))) h = grind (arith, nat_tests)
 
 -- nor one that takes a text
 text_apart : (class : ℕ) → has_text_constructor class ≡ true → not (class == 3 || class == 4) ≡ true
-text_apart class h = grind (arith, nat_tests)
+text_apart zero h = refl
+text_apart (suc zero) h = refl
+text_apart (suc (suc zero)) h = refl
+text_apart (suc (suc (suc zero))) h = absurd (false≢true h)
+text_apart (suc (suc (suc (suc zero)))) h = absurd (false≢true h)
+text_apart (suc (suc (suc (suc (suc n))))) h = grind (arith, nat_tests)
 
 -- constructors of built-in classes
 constructor_fine : (p : PlainProgram) (class : ℕ) (m : List ℕ) → Fine p (constructor class m)
@@ -296,11 +308,13 @@ unfolding jumped
 jumped_fine p labels word label = bind_fine p (or_fault kinds.UnknownLabel (value_of label labels)) _ (λ to. fault_fine p kinds.OutOfProfile (jump_to word to) (jump_fine p word to))
 
 -- classes of which objects are made are so for the laws as well
-fewer : (a b c d : Bool) → not (a || b || c || d) ≡ true → not (a || b || c) ≡ true
-fewer true b c d h = h
-fewer false true c d h = h
-fewer false false true d h = h
-fewer false false false d h = refl
+has_values : (class : ℕ) → built_in.has_objects class ≡ true → not (class == 2 || class == 3 || class == 4) ≡ true
+has_values zero h = refl
+has_values (suc zero) h = refl
+has_values (suc (suc zero)) h = absurd (false≢true h)
+has_values (suc (suc (suc zero))) h = absurd (false≢true h)
+has_values (suc (suc (suc (suc zero)))) h = absurd (false≢true h)
+has_values (suc (suc (suc (suc (suc n))))) h = grind (arith, nat_tests)
 
 -- `new`
 made_fine : (p : PlainProgram) (names : Names) (texts : Rows) (class : List ℕ) → Numbers p names texts → FineLine p (made names class)
@@ -308,7 +322,7 @@ unfolding made
 made_fine p names texts class there =
     found_fine p kinds.UnknownClass (class_of names.classes class) (λ n. if built_in.has_objects n then Ok (instr.New n) else Err kinds.OutOfProfile)
     (λ n found. if_line p (built_in.has_objects n) (Ok (instr.New n)) (Err kinds.OutOfProfile)
-    (λ h. joined (is_class (declarations_of p) n) (not (n == 2 || n == 3 || n == 4)) (there.class_there class n found) (fewer (n == 2) (n == 3) (n == 4) (n == 19) h)) tt)
+    (λ h. joined (is_class (declarations_of p) n) (not (n == 2 || n == 3 || n == 4)) (there.class_there class n found) (has_values n h)) tt)
 
 -- a text constant
 texted_fine : (p : PlainProgram) (names : Names) (texts : Rows) (text : List ℕ) → Numbers p names texts → FineLine p (texted texts text)

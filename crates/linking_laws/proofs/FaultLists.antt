@@ -49,7 +49,7 @@ fields_noted names class taken (f ∷ fs) n found =
     fields_noted names class taken fs (field_counted f n) (noted found f.line (field_fault names class f n (is_full taken f n)))
     ∙ noted_before found f.line (field_fault names class f n (is_full taken f n)) (fields_faults names class taken fs (field_counted f n))
 
--- what is counted behind fields
+-- what is counted after fields
 fields_count : (names : Names) (class : List ℕ) (taken : ℕ) (fs : List PlainFieldText) (n : Counts) (found : Option Refusal) → (fields_judged names class taken fs n found).0 ≡ fields_counted fs n
 unfolding fields_judged
 fields_count names class taken [] n found = refl
@@ -63,7 +63,7 @@ methods_noted names class (m ∷ ms) n found =
     methods_noted names class ms (method_counted n) (noted found m.line (judged_method names class m n))
     ∙ noted_before found m.line (judged_method names class m n) (methods_faults names class ms (method_counted n))
 
--- what is counted behind methods
+-- what is counted after methods
 methods_count : (names : Names) (class : List ℕ) (ms : List PlainMethodText) (n : Counts) (found : Option Refusal) → (judging.methods_judged names class ms n found).0 ≡ methods_counted ms n
 unfolding judging.methods_judged
 methods_count names class [] n found = refl
@@ -94,7 +94,7 @@ class_noted names c n found =
     methods : List Refusal
     methods = methods_faults names c.name c.methods (fields_counted c.fields (class_begun c n))
 
--- what is counted behind it
+-- what is counted after it
 class_count : (names : Names) (c : PlainClassText) (n : Counts) (found : Option Refusal) → (class_judged names c n found).0 ≡ methods_counted c.methods (fields_counted c.fields (class_begun c n))
 class_count names c n found =
     methods_count names c.name c.methods behind.0 behind.1 ∙ ap (methods_counted c.methods) (fields_count names c.name (taken c) c.fields (class_begun c n) (lines_judged names c n found))

@@ -103,7 +103,7 @@ record Kept (x : Refusal) (xs : List Refusal) : Type 0 where
   pub head : is_before x fault ≡ false
   pub rest : AllByRecursion (λ (g : Refusal). is_before g fault ≡ false) xs
 
--- a fault that is behind another one
+-- a fault that is after another one
 one_behind : (x f : Refusal) (xs : List Refusal) → Contains xs f → Contains (x ∷ xs) f
 one_behind x f xs h = (suc h.0, omega (arith, h.1), h.2)
 

@@ -178,7 +178,7 @@ lines_fine names c n found e =
     let named : _ = named_fine names c n (is_named c) refl first.1 in
     (first.0, record { named = named.0; few = named.1; has_number = named.2; run = implemented.1 })
 
--- the counts and the first fault behind a class's fields
+-- the counts and the first fault after a class's fields
 abbrev pub behind_fields : Names → PlainClassText → Counts → Option Refusal → Counts × Option Refusal
 behind_fields names c n found = fields_judged names c.name (taken c) c.fields (class_begun c n) (lines_judged names c n found)
 

@@ -3,7 +3,7 @@ use Rattle.std.proofs.Common.{◌≡◌, ℕ, ◌≤◌, List, [], ◌∷◌, �
 use Rattle.std.specs.Prelude.{length}
 use Rattle.std.specs.List.{AllByRecursion}
 use Rattle.vm_model.specs.Program.{PlainMethod, PlainProgram, method_at}
-use Rattle.vm_model.specs.Plain.{IsLinked}
+use Rattle.vm_model.specs.Plain.{IsWithinBounds}
 use Rattle.jasmin_reader.specs.Plain.{PlainClassText, PlainMethodText}
 use Rattle.class_linker.specs.declared.fault.Refusal.{Refusal}
 use Rattle.class_linker.specs.declared.names.Names.{Names}
@@ -109,7 +109,7 @@ linked_is_few classes p e = subst IsFew g.is (record { short = all_both IsShortC
     few = omega (arith, length-append methods (thread_method ∷ []), s.count, s.few)
 
 -- so it is within the bounds that a machine needs
-pub linked_is_small : (classes : List PlainClassText) (p : PlainProgram) → linking classes ≡ Ok p → IsLinked p
+pub linked_is_small : (classes : List PlainClassText) (p : PlainProgram) → linking classes ≡ Ok p → IsWithinBounds p
 linked_is_small classes p e =
     let few : IsFew p = linked_is_few classes p e in
     record { small = weaker IsShortCode (λ (m : PlainMethod). length m.code ≤ 1048576) p.methods (λ m h. omega (arith, h)) few.short; few = omega (arith, few.few) }

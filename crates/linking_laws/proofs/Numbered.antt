@@ -67,7 +67,7 @@ found_row true key word n k rows e =
 
 -- ---- places
 
--- an element keeps its place where others come behind
+-- an element keeps its place where others come after
 pub there_before : {A : Type 0} (xs ys : List A) (k : ℕ) (x : A) → slice_get xs k ≡ Some x → slice_get (xs ++ ys) k ≡ Some x
 there_before [] ys k x e = absurd (none_some x e)
 there_before (y ∷ xs) ys zero x e = e
@@ -242,7 +242,7 @@ whole_numbered known judging thread_run texts c before n found names is_number a
     (subst (λ (k : Counts). (methods_judged judging c.name c.methods k (behind_fields judging c n found).1).1 ≡ None) (fields_count judging (with_class c n names) c.name _ c.fields (class_begun c n) _) e)
     (fields_numbered known judging c.name c.fields before (class_begun c n) (with_class c n names) begun)
 
--- the counts behind a class
+-- the counts after a class
 abbrev pub behind_class : PlainClassText → Counts → Names → Counts
 behind_class c n names = counted_if (is_named c) (with_whole c n names).0
 
@@ -251,7 +251,7 @@ counted_named : (b : Bool) (n : Counts) → b ≡ true → counted_if b n ≡ cl
 counted_named true n e = refl
 counted_named false n e = absurd (false≢true e)
 
--- the number of the class behind one that is let through
+-- the number of the class after one that is let through
 pub number_behind : (judging names : Names) (c : PlainClassText) (n : Counts) → FineClass judging n.classes c → (behind_class c n names).classes ≡ next n.classes
 number_behind judging names c n fine = ap (λ (k : Counts). k.classes) (counted_named (is_named c) (with_whole c n names).0 fine.named) ∙ ap next (class_keeps_number names c n)
 

@@ -14,14 +14,14 @@ use Rattle.jasmin_reader.specs.declared.lexeme.Lexeme.{Lexeme}
 use Rattle.jasmin_reader.specs.declared.lexeme.Lexeme.TheVariants as lexeme
 use Rattle.jasmin_reader.specs.Faults.{◌>>=◌}
 use Rattle.jasmin_reader.specs.Plain.{PlainClassText}
-use Rattle.jasmin_reader.specs.Lexemes.{PlainLine, lines_behind}
+use Rattle.jasmin_reader.specs.Lexemes.{PlainLine, lines_after}
 use Rattle.jasmin_reader.specs.Words.{two, number_of, is_word, name_of, word_of, named, is_class_name, is_method_name, is_name, class_name_of, split_at, described, one}
 use Rattle.jasmin_reader.specs.Instructions.{instruction}
 use Rattle.jasmin_reader.specs.Directives.{split_last, class_flags, field_flags, method_flags, source_form, class_form, name_at, field_of, valued, field_form, empty_method, method_form, limit_form, end_form, catch_of, catch_form, class_directive, method_directive, directive_form}
 use Rattle.jasmin_reader.specs.Forms.{unlabelled_form, labelled_form, label_of, coded, begins_with_dot, form_of}
 use Rattle.jasmin_reader.specs.Grammar.{PlainState, nothing_begun, next_state, lacks_super, is_end, may_stand_first, misplaced, placed, form_among}
 use Rattle.jasmin_reader.specs.Assembly.{PlainParts, no_parts, with_form, parts_of, classes_of}
-use Rattle.jasmin_reader.specs.Reading.{at_line, forms_behind, last_line, reading}
+use Rattle.jasmin_reader.specs.Reading.{at_line, forms_after, last_line, reading}
 use Rattle.linking_laws.specs.Named.{IsNamedMethod, AreNamed}
 
 -- ---- forms of lines
@@ -274,14 +274,14 @@ more_good line (Ok f) next h k = by (next f) (k f)
     by (Err e) all = tt
 
 -- all lines
-forms_good : (last : ℕ) (s : PlainState) (lines : List PlainLine) → GoodForms (forms_behind last s lines)
-unfolding forms_behind
+forms_good : (last : ℕ) (s : PlainState) (lines : List PlainLine) → GoodForms (forms_after last s lines)
+unfolding forms_after
 forms_good last s [] = by (lacks_super s)
   where
     by : (b : Bool) → GoodForms (if b then Err (record { kind = NoSuper; line = last }) else Ok [])
     by true = tt
     by false = tt
-forms_good last s (line ∷ lines) = more_good line.number (form_among s line lines) (λ f. forms_behind last (next_state f s) lines) (among_good s line lines) (λ f. forms_good last (next_state f s) lines)
+forms_good last s (line ∷ lines) = more_good line.number (form_among s line lines) (λ f. forms_after last (next_state f s) lines) (among_good s line lines) (λ f. forms_good last (next_state f s) lines)
 
 -- classes and methods so far have names
 pub record GoodParts (p : PlainParts) : Type 0 where
@@ -325,4 +325,4 @@ read_named (Ok fs) classes h e =
 pub read_are_named : (text : List ℕ) (tokens : List Token) (classes : List PlainClassText) → reading text tokens ≡ Ok classes → AreNamed classes
 unfolding reading
 read_are_named text tokens classes e =
-    read_named (forms_behind (last_line tokens) nothing_begun (lines_behind text [] tokens)) classes (forms_good (last_line tokens) nothing_begun (lines_behind text [] tokens)) e
+    read_named (forms_after (last_line tokens) nothing_begun (lines_after text [] tokens)) classes (forms_good (last_line tokens) nothing_begun (lines_after text [] tokens)) e

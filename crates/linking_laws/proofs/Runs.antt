@@ -107,7 +107,7 @@ run_added c cs n names e =
     let begun : Counts × Names = with_fields c.name c.fields (class_begun c n) (with_class c n names) in
     classes_keep (run_key c.name) cs (counted_if (is_named c) (with_whole c n names).0) (with_whole c n names).1 (methods_add c.name c.methods begun.0 begun.1 e)
 
--- the names of the classes behind it are those of all
+-- the names of the classes after it are those of all
 pub names_behind : (c : PlainClassText) (cs : List PlainClassText) (n : Counts) (names : Names) → with_classes (c ∷ cs) n names ≡ with_classes cs (counted_if (is_named c) (with_whole c n names).0) (with_whole c n names).1
 unfolding with_classes
 names_behind c cs n names = refl

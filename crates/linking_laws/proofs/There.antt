@@ -13,7 +13,7 @@ use Rattle.jasmin_reader.specs.Plain.{PlainClassText, PlainFieldText, PlainMetho
 use Rattle.class_linker.specs.declared.names.Counts.{Counts}
 use Rattle.class_linker.specs.declared.names.Names.{Names}
 use Rattle.class_linker.specs.Index.{Rows, value_of}
-use Rattle.class_linker.specs.BuiltIn.{built_in_classes}
+use Rattle.built_in_classes.specs.Classes.{BuiltInClass, built_in_classes, built_in_number, number_from}
 use Rattle.class_linker.specs.Descriptors.{or_user, class_of}
 use Rattle.class_linker.specs.Names.{next, is_named, row_if, no_counts, no_names, class_begun, counted_if, field_counted, method_counted, with_class, with_field, with_method, with_fields, with_methods, with_whole, with_classes, names_of}
 use Rattle.class_linker.specs.Bodies.{PlainTexts, no_texts, added_text, with_text, with_operand, with_operands, with_lines, with_bodies, with_all, texts_of}
@@ -122,20 +122,19 @@ unfolding names_of
 names_within classes = classes_within (32 + length classes) classes no_counts no_names (omega arith) (omega arith) (λ key k e. absurd (none_some k e))
 
 -- what all rows pass, the one that is found passes
-row_passes : (test : ℕ → Bool) (key : List ℕ) (k : ℕ) (rows : Rows) → list_all (λ (row : List ℕ × ℕ). test row.1) rows ≡ true → value_of key rows ≡ Some k → test k ≡ true
-row_passes test key k [] all e = absurd (none_some k e)
-row_passes test key k (row ∷ rows) all e =
-    let parts : (test row.1 ≡ true) × (list_all (λ (r : List ℕ × ℕ). test r.1) rows ≡ true) = both (test row.1) (list_all (λ (r : List ℕ × ℕ). test r.1) rows) all in
-    by (bytes_eq key row.0) parts.0 e (row_passes test key k rows parts.1)
+-- the number that is found is below the size of the table, counted from where the search begins
+number_below : (first n : ℕ) (classes : List BuiltInClass) (name : List ℕ) → number_from first classes name ≡ Some n → n < first + length classes
+number_below first n [] name e = absurd (none_some n e)
+number_below first n (c ∷ classes) name e = by (bytes_eq name c.name) e (number_below (first + 1) n classes name)
   where
-    by : (b : Bool) → test row.1 ≡ true → (if b then Some row.1 else value_of key rows) ≡ Some k → (value_of key rows ≡ Some k → test k ≡ true) → test k ≡ true
-    by true here h more = subst (λ (n : ℕ). test n ≡ true) (some_same row.1 k h) here
-    by false here h more = more h
+    by : (b : Bool) → (if b then Some first else number_from (first + 1) classes name) ≡ Some n → (number_from (first + 1) classes name ≡ Some n → n < first + 1 + length classes) → n < first + length (c ∷ classes)
+    by true h more = let same : first ≡ n = some_same first n h in omega (arith, same)
+    by false h more = omega (arith, more h)
 
 -- built-in classes have numbers below 23
-built_in_below : (name : List ℕ) (n : ℕ) → value_of name built_in_classes ≡ Some n → nat_lt n 23 ≡ true
-unfolding built_in_classes
-built_in_below name n e = row_passes (λ (k : ℕ). nat_lt k 23) name n built_in_classes refl e
+built_in_below : (name : List ℕ) (n : ℕ) → built_in_number name ≡ Some n → nat_lt n 23 ≡ true
+unfolding built_in_number
+built_in_below name n e = let low : n < 23 = number_below 0 n built_in_classes name e in grind (arith, nat_tests)
 
 -- a user class is there
 pub user_there : (p : PlainProgram) (n : ℕ) → 32 ≤ n → n < 32 + length p.classes → is_some (class_at p n) ≡ true
@@ -150,9 +149,9 @@ user_there p n above below = by (nat_le 32 n) (at_least 32 n above)
 
 -- a class with a number is there
 class_found : (p : PlainProgram) (classes : Rows) (name : List ℕ) (n : ℕ) → ClassesWithin (32 + length p.classes) classes → class_of classes name ≡ Some n → is_class (declarations_of p) n ≡ true
-class_found p classes name n within e = by (value_of name built_in_classes) refl e
+class_found p classes name n within e = by (built_in_number name) refl e
   where
-    by : (o : Option ℕ) → value_of name built_in_classes ≡ o → or_user classes name o ≡ Some n → is_class (declarations_of p) n ≡ true
+    by : (o : Option ℕ) → built_in_number name ≡ o → or_user classes name o ≡ Some n → is_class (declarations_of p) n ≡ true
     by (Some k) is h = on_left (nat_lt n 23) (is_some (class_at p n)) (built_in_below name n (is ∙ h))
     by None is h = let inside : (32 ≤ n) × (n < 32 + length p.classes) = within name n h in on_right (nat_lt n 23) (is_some (class_at p n)) (user_there p n inside.0 inside.1)
 

@@ -2,6 +2,7 @@
 -- bodies. An instruction past the limit has a fault of its own, beside that of its line.
 use Rattle.std.specs.Prelude.{◌≡◌, ℕ, Bool, false, nat_le, List, [], ◌∷◌, ◌++◌, map, fold, flat_map, Contains, Option, Some, None}
 use Rattle.std.specs.List.{list_any}
+use Rattle.vm_model.specs.declared.limits.TheConstants.{MOST_INSTRUCTIONS}
 use Rattle.jasmin_reader.specs.declared.class_text.CatchText.{CatchText}
 use Rattle.jasmin_reader.specs.declared.class_text.NameAt.{NameAt}
 use Rattle.jasmin_reader.specs.Plain.{PlainClassText, PlainFieldText, PlainMethodText, PlainLineText}
@@ -36,7 +37,7 @@ implements_faults has_run xs = flat_map (λ x. of_line x.line (implements_fault 
 abbrev pub head_faults : Names → PlainClassText → Counts → List Refusal
 head_faults names c n = of_line c.line (class_fault names c n) ++ of_line c.super_line (super_fault c) ++ implements_faults (has_run c) c.implements
 
--- what is counted behind the fields of a class, its methods, and the class itself
+-- what is counted after the fields of a class, its methods, and the class itself
 abbrev pub fields_counted : List PlainFieldText → Counts → Counts
 fields_counted fs n = fold (λ counts f. field_counted f counts) n fs
 
@@ -71,7 +72,7 @@ declaration_faults classes = classes_faults (names_of classes).1 classes no_coun
 
 -- an instruction that isn't linked, and one past the limit
 abbrev pub line_faults : Names → ℕ → Rows → Rows → PlainLineText → ℕ → List Refusal
-line_faults names thread_run texts labels l n = of_line l.line (fault_in (linked names thread_run texts labels l)) ++ of_line l.line (only_if TooMany (nat_le 16384 n) None)
+line_faults names thread_run texts labels l n = of_line l.line (fault_in (linked names thread_run texts labels l)) ++ of_line l.line (only_if TooMany (nat_le MOST_INSTRUCTIONS n) None)
 
 -- the lines of a method, which are numbered from 0
 unfoldable pub code_faults : Names → ℕ → Rows → Rows → List PlainLineText → ℕ → List Refusal

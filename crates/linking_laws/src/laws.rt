@@ -1,6 +1,6 @@
 ghost use Rattle.std.specs.Prelude.{◌≡◌, ◌≢◌, ◌≤◌, ◌↔◌, ℕ, true, false, List, [], length, Ok, Err, IsOk, Some};
 ghost use Rattle.vm_model.specs.Program.{PlainMethod, PlainProgram, method_at};
-ghost use Rattle.vm_model.specs.Plain.{IsLinked};
+ghost use Rattle.vm_model.specs.Plain.{IsWithinBounds};
 ghost use Rattle.jasmin_text.specs.declared.token.Token.{Token};
 ghost use Rattle.jasmin_reader.specs.Plain.{PlainClassText};
 ghost use Rattle.jasmin_reader.specs.Reading.{reading};
@@ -31,7 +31,7 @@ pub fn linked_program_names_what_is_there()
 
 /// A linked program is within the bounds that a machine needs. It has at most 1,024 methods and Thread's own `run`.
 pub fn linked_program_is_small()
-    ensures small { (classes : List PlainClassText) (p : PlainProgram) → linking classes ≡ Ok p → IsLinked p }
+    ensures small { (classes : List PlainClassText) (p : PlainProgram) → linking classes ≡ Ok p → IsWithinBounds p }
     ensures methods { (classes : List PlainClassText) (p : PlainProgram) → linking classes ≡ Ok p → length p.methods ≤ 1025 }
 {}
 

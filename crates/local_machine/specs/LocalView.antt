@@ -1,5 +1,6 @@
 -- A thread by itself as callers see it.
 use Rattle.std.specs.Prelude.{◌≡◌, ℕ, zero, suc, ◌+◌, ◌-◌, Bool, true, false, if◌then◌else◌, Option, Some, None}
+use Rattle.vm_model.specs.declared.limits.TheConstants.{MOST_LOCAL_STEPS}
 use Rattle.vm_model.specs.declared.op.Op.{Op}
 use Rattle.vm_model.specs.declared.op.Reply.{Reply}
 use Rattle.vm_model.specs.Program.{PlainProgram}
@@ -52,4 +53,4 @@ steps_within p (suc n) l = one_more (local_step p l) (steps_within p n)
 
 -- the thread at its next operation, or after 4,096 local steps since the last reply; one that is ready stays as it is
 abbrev pub advanced : PlainProgram → LocalView → LocalView
-advanced p l = if l.is_ready then l else asking p (l.steps + steps_within p (4096 - l.steps) l.state) (settled_within p (4096 - l.steps) l.state)
+advanced p l = if l.is_ready then l else asking p (l.steps + steps_within p (MOST_LOCAL_STEPS - l.steps) l.state) (settled_within p (MOST_LOCAL_STEPS - l.steps) l.state)

@@ -1,5 +1,6 @@
 -- The state that the fields of a thread stand for, and what it asks for.
 use Rattle.std.specs.Prelude.{◌≡◌, ℕ, ◌+◌, ◌-◌, Bool, true, false, if◌then◌else◌, nat_lt, List, Option, Some, None}
+use Rattle.vm_model.specs.declared.limits.TheConstants.{MOST_FRAMES, MOST_LOCAL_STEPS}
 use Rattle.vm_model.specs.declared.value.Lock.{Lock}
 use Rattle.vm_model.specs.declared.op.Op.{Op}
 use Rattle.vm_model.specs.declared.op.Op.TheVariants as op
@@ -36,7 +37,7 @@ wanted_return (Some l) has_caller = op.Exit l
 
 abbrev pub wanted : Acted → model.Frame → ℕ → Option Op
 wanted acted.Goes f below = Some op.Tick
-wanted (acted.Calls m l) f below = Some (wanted_call l f (nat_lt below 255))
+wanted (acted.Calls m l) f below = Some (wanted_call l f (nat_lt below (MOST_FRAMES - 1)))
 wanted (acted.Gives given) f below = Some (wanted_return f.lock (nat_lt 0 below))
 wanted (acted.Asks o n) f below = Some o
 wanted (acted.Fails kind) f below = Some (fault_at kind f)
@@ -61,6 +62,6 @@ IsAskedBy p l (Some r) = (is_running l ≡ true) × (r.op ≡ pending_operation 
 
 -- the state that another leads to was reached, and this is what it asks for
 pub record IsReached (p : PlainProgram) (old : model.LocalState) (steps : ℕ) (new : model.LocalState) (steps' : ℕ) (r : Option Ready) : Type 0 where
-  pub state : new ≡ settled_within p (4096 - steps) old
-  pub count : steps' ≡ steps + steps_within p (4096 - steps) old
+  pub state : new ≡ settled_within p (MOST_LOCAL_STEPS - steps) old
+  pub count : steps' ≡ steps + steps_within p (MOST_LOCAL_STEPS - steps) old
   pub asked : IsAskedBy p new r

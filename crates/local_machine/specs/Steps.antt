@@ -1,5 +1,6 @@
 -- What the code's steps are, by the definitions.
 use Rattle.std.specs.Prelude.{◌≡◌, ℕ, ◌+◌, ◌-◌, List, ◌∷◌, Option, Some, None}
+use Rattle.vm_model.specs.declared.limits.TheConstants.{MOST_LOCAL_STEPS}
 use Rattle.vm_model.specs.Program.{PlainProgram}
 use Rattle.machine_model.specs.Frames.{Frame, LocalState, Running, Plain}
 use Rattle.machine_model.specs.Effect.{action}
@@ -15,12 +16,12 @@ Stepped p f below (Some a) frames = (local_step p (Running (f ∷ below) Plain) 
 
 -- two states with the steps made so far lead to the same state, after as many steps
 pub record IsOnTheWay (p : PlainProgram) (old : LocalState) (steps : ℕ) (new : LocalState) (steps' : ℕ) : Type 0 where
-  pub state : settled_within p (4096 - steps') new ≡ settled_within p (4096 - steps) old
-  pub count : steps' + steps_within p (4096 - steps') new ≡ steps + steps_within p (4096 - steps) old
+  pub state : settled_within p (MOST_LOCAL_STEPS - steps') new ≡ settled_within p (MOST_LOCAL_STEPS - steps) old
+  pub count : steps' + steps_within p (MOST_LOCAL_STEPS - steps') new ≡ steps + steps_within p (MOST_LOCAL_STEPS - steps) old
 
 -- the state that another leads to was reached, and this is what the instruction of its top frame does
 pub record IsSettled (p : PlainProgram) (old : LocalState) (steps : ℕ) (f : Frame) (below : List Frame) (steps' : ℕ) (a : Acted) : Type 0 where
-  pub state : Running (f ∷ below) Plain ≡ settled_within p (4096 - steps) old
-  pub count : steps' ≡ steps + steps_within p (4096 - steps) old
+  pub state : Running (f ∷ below) Plain ≡ settled_within p (MOST_LOCAL_STEPS - steps) old
+  pub count : steps' ≡ steps + steps_within p (MOST_LOCAL_STEPS - steps) old
   pub acted : a ≡ acted_of (action p f)
   pub way : IsOnTheWay p old steps (Running (f ∷ below) Plain) steps'

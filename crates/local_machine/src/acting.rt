@@ -1,5 +1,6 @@
 // What each instruction does.
 ghost use Rattle.std.specs.Prelude.{◌≡◌, ◌+◌, ◌<◌, ◌≤◌, ◌^◌, length};
+ghost use Rattle.vm_model.specs.declared.limits.TheConstants.{MOST_TEXT_BYTES};
 ghost use Rattle.machine_model.specs.Effect.{effect};
 ghost use Rattle.local_machine.specs.Acts.{plain, acted_of, after};
 
@@ -16,7 +17,7 @@ use vm_model::{Instr, Program};
 pub fn act(frame: &mut Frame, program: &Program, instr: Instr) -> Acted
     requires place { frame.old.place < 2 ^ 31 }
     requires room { length frame.old.stack.values + 2 ≤ frame.old.stack.room }
-    requires few { length program.now.methods ≤ 1048576 }
+    requires few { length program.now.methods ≤ MOST_TEXT_BYTES }
     ensures acted { result ≡ acted_of (effect program.now instr (plain frame.old)) }
     ensures room { frame.old.stack.room ≤ frame.new.stack.room }
     ensures frame { plain frame.new ≡ after (effect program.now instr (plain frame.old)) (plain frame.old) }

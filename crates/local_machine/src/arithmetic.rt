@@ -78,7 +78,7 @@ pub fn arithmetic(frame: &mut Frame, program: &Program, instr: Instr) -> Option<
     })
 }
 
-/// `iushr`: the bits moved to the right, with zeros behind them.
+/// `iushr`: the bits moved to the right, with zeros after them.
 fn shift_unsigned(x: i32, by: i32) -> i32
     ensures { result ≡ shift_right_unsigned x by }
 {

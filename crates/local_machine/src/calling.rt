@@ -1,5 +1,6 @@
 // Calls, returns, and what the class library does.
 ghost use Rattle.std.specs.Prelude.{◌≡◌, ◌<◌, ◌≤◌, ◌^◌, length, false};
+ghost use Rattle.vm_model.specs.declared.limits.TheConstants.{MOST_TEXT_BYTES};
 ghost use Rattle.vm_model.specs.Program.{method_at};
 ghost use Rattle.machine_model.specs.Effect.{effect, calls_on, calls_static, run_method as model_run_method, lock_if as model_lock_if};
 ghost use Rattle.machine_model.specs.Operands.{as_stream, Asks};
@@ -14,7 +15,7 @@ use vm_model::{FaultKind, Instr, Lock, ObjRef, Op, Piece, Program, Value};
 /// A step of the thread alone changes the frame; nothing else does.
 pub fn calling(frame: &mut Frame, program: &Program, instr: Instr) -> Acted
     requires place { frame.old.place < 2 ^ 31 }
-    requires few { length program.now.methods ≤ 1048576 }
+    requires few { length program.now.methods ≤ MOST_TEXT_BYTES }
     requires not_moving { is_moving instr ≡ false }
     requires not_arithmetic { is_arithmetic instr ≡ false }
     requires no_jump { is_jump instr ≡ false }
@@ -158,7 +159,7 @@ fn call_on(frame: &Frame, program: &Program, method: u32) -> Acted
 
 /// The number of the `run()V` that an object of this class runs: its own, or that of `Thread`.
 pub fn run_method(program: &Program, class: u32) -> u32
-    requires { length program.now.methods ≤ 1048576 }
+    requires { length program.now.methods ≤ MOST_TEXT_BYTES }
     ensures { result ≡ model_run_method program.now class }
 {
     let last = program.methods.len().saturating_sub(1) as u32;

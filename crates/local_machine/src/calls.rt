@@ -11,7 +11,7 @@ use crate::frame::Frame;
 use crate::stack::Stack;
 use std::alloc::Global;
 use std::mem;
-use vm_model::{Lock, NoMemory, Program, Value};
+use vm_model::{Lock, MOST_LOCALS, NoMemory, Program, Value};
 
 /// How many operands a call of this method takes; none where there is no such method.
 pub fn arity_at(program: &Program, method: u32) -> usize
@@ -34,7 +34,7 @@ fn locals_at(program: &Program, method: u32) -> u32
     ensures { result ≡ model_locals_at (method_at program.now method) }
 {
     match program.method(method) {
-        Some(m) => m.max_locals.unwrap_or(256),
+        Some(m) => m.max_locals.unwrap_or(MOST_LOCALS),
         None => 0,
     }
 }

@@ -21,8 +21,3 @@ mod stack;
 mod step;
 
 pub use local::Local;
-
-#[cfg(test)]
-mod instructions_tested;
-#[cfg(test)]
-mod tests;

@@ -1,5 +1,6 @@
 // A thread by itself.
 ghost use Rattle.std.specs.Prelude.{◌≡◌, ◌≤◌, ◌↔◌, IfOk, OnOk, OnErr, IsSome, IsTrue, Some, length};
+ghost use Rattle.vm_model.specs.declared.limits.TheConstants.{MOST_LOCAL_STEPS};
 ghost use Rattle.vm_model.specs.Program.{method_at};
 ghost use Rattle.machine_model.specs.Frames.{Ended};
 ghost use Rattle.machine_model.specs.Effect.{lock_if as model_lock_if};
@@ -111,10 +112,10 @@ impl Local {
         self.ready.is_some()
     }
 
-    /// How many steps of its own the thread made since the last reply: at most 4,096.
+    /// How many steps of its own the thread made since the last reply: at most `MOST_LOCAL_STEPS`.
     pub fn steps(&self) -> u32
         ensures value { result ≡ self.now.steps }
-        ensures few { result ≤ 4096 }
+        ensures few { result ≤ MOST_LOCAL_STEPS }
     {
         self.steps
     }
@@ -138,7 +139,7 @@ impl Local {
         self.operation().unwrap()
     }
 
-    /// Runs the thread's own instructions until the next operation is reached, at most 4,096 of them since the last reply, and
+    /// Runs the thread's own instructions until the next operation is reached, at most `MOST_LOCAL_STEPS` of them since the last reply, and
     /// makes the room that the reply will need. A thread that is ready or ended stays as it is. Where memory is missing the
     /// thread stands some steps further on the same way, and the next call goes on from there.
     pub fn advance(&mut self, alloc: Global, plain: &Plain) -> Result<(), NoMemory>

@@ -1,5 +1,6 @@
 // The way to the next operation.
 ghost use Rattle.std.specs.Prelude.{◌≡◌, ◌≤◌, length, IfOk, OnErr, vec_len, vec_capacity};
+ghost use Rattle.vm_model.specs.declared.limits.TheConstants.{MOST_LOCAL_STEPS, MOST_TEXT_BYTES};
 ghost use Rattle.vm_model.specs.Program.{IsSmall};
 ghost use Rattle.machine_model.specs.LocalStep.{entering as model_entering, fault_at as model_fault_at};
 ghost use Rattle.local_machine.specs.Acts.{plain};
@@ -15,7 +16,7 @@ use crate::frame::Frame;
 use crate::phase::Phase;
 use crate::step::{look, settle};
 use std::alloc::Global;
-use vm_model::{FaultKind, Lock, NoMemory, Op, Program};
+use vm_model::{FaultKind, Lock, MOST_FRAMES, NoMemory, Op, Program};
 
 /// The fault of this kind at the frame's instruction.
 fn fault_at(kind: FaultKind, frame: &Frame) -> Op
@@ -58,7 +59,7 @@ fn wanted_by(acted: Acted, frame: &Frame, below: usize) -> Option<Op>
 {
     match acted {
         Acted::Goes => Some(Op::Tick),
-        Acted::Calls(_, lock) => Some(wanted_by_call(lock, frame, below < 255)),
+        Acted::Calls(_, lock) => Some(wanted_by_call(lock, frame, below < MOST_FRAMES - 1)),
         Acted::Gives(_) => Some(wanted_by_return(frame.lock, 0 < below)),
         Acted::Asks(op, _) => Some(op),
         Acted::Fails(kind) => Some(fault_at(kind, frame)),
@@ -110,13 +111,13 @@ pub fn reach(
     steps: &mut u32,
 ) -> Result<Option<Ready>, NoMemory>
     requires small { IsSmall program.now }
-    requires few { length program.now.methods ≤ 1048576 }
-    requires steps { steps.old ≤ 4096 }
+    requires few { length program.now.methods ≤ MOST_TEXT_BYTES }
+    requires steps { steps.old ≤ MOST_LOCAL_STEPS }
     requires below { AreAtCalls (callers below.old.items) }
     ensures ok { IfOk result (λ ready. IsReached program.now (state_of phase top.old below.old.items) steps.old (state_of phase top.new below.new.items) steps.new ready) }
     ensures room { IfOk result (λ ready. HasRoomIn ready top.new below.new.items (vec_len below.new) (vec_capacity below.new)) }
     ensures err { OnErr result (IsOnTheWay program.now (state_of phase top.old below.old.items) steps.old (state_of phase top.new below.new.items) steps.new) }
-    ensures steps { steps.new ≤ 4096 }
+    ensures steps { steps.new ≤ MOST_LOCAL_STEPS }
     ensures below { AreAtCalls (callers below.new.items) }
 {
     match phase {

@@ -1,5 +1,6 @@
 // Steps of the thread alone.
 ghost use Rattle.std.specs.Prelude.{◌≡◌, ◌+◌, ◌<◌, ◌≤◌, ◌^◌, length, IfOk, OnOk, OnErr};
+ghost use Rattle.vm_model.specs.declared.limits.TheConstants.{MOST_TEXT_BYTES};
 ghost use Rattle.vm_model.specs.Program.{IsSmall};
 ghost use Rattle.machine_model.specs.Frames.{Running, Plain};
 ghost use Rattle.machine_model.specs.Effect.{action};
@@ -13,12 +14,12 @@ use crate::acting::act;
 use crate::calls::{arity_at, enter, first_frame, give_back, reserve_caller};
 use crate::frame::Frame;
 use std::alloc::Global;
-use vm_model::{Lock, NoMemory, Program};
+use vm_model::{Lock, MOST_FRAMES, MOST_LOCAL_STEPS, NoMemory, Program};
 
 /// What the instruction at the frame's place does. A step of the thread alone changes the frame; nothing else does.
 fn act_at_place(frame: &mut Frame, program: &Program) -> Acted
     requires small { IsSmall program.now }
-    requires few { length program.now.methods ≤ 1048576 }
+    requires few { length program.now.methods ≤ MOST_TEXT_BYTES }
     requires room { HasRoom frame.old }
     ensures acted { result ≡ acted_of (action program.now (plain frame.old)) }
     ensures frame { plain frame.new ≡ after (action program.now (plain frame.old)) (plain frame.old) }
@@ -62,7 +63,7 @@ fn step(
     below: &mut Vec<Frame>,
 ) -> Result<Option<Acted>, NoMemory>
     requires small { IsSmall program.now }
-    requires few { length program.now.methods ≤ 1048576 }
+    requires few { length program.now.methods ≤ MOST_TEXT_BYTES }
     requires below { AreAtCalls (callers below.old.items) }
     ensures ok { IfOk result (λ acted. Stepped program.now (plain top.old) (callers below.old.items) acted (frames_of top.new below.new.items)) }
     ensures place { IfOk result (λ acted. StandsWhere acted top.new) }
@@ -77,7 +78,7 @@ fn step(
             if lock.is_some() {
                 return Ok(Some(acted));
             }
-            if below.len() >= 255 {
+            if below.len() >= MOST_FRAMES - 1 {
                 return Ok(Some(acted));
             }
             call(alloc, program, method, lock, top, below)?;
@@ -101,7 +102,7 @@ fn step(
 /// What the instruction of the top frame does, which is not changed: the instruction is tried on a copy of it.
 pub fn look(alloc: Global, program: &Program, top: &mut Frame) -> Result<Acted, NoMemory>
     requires small { IsSmall program.now }
-    requires few { length program.now.methods ≤ 1048576 }
+    requires few { length program.now.methods ≤ MOST_TEXT_BYTES }
     ensures acted { IfOk result (λ acted. acted ≡ acted_of (action program.now (plain top.old))) }
     ensures frame { plain top.new ≡ plain top.old }
     ensures stands { IfOk result (λ acted. Stands acted top.new) }
@@ -111,7 +112,7 @@ pub fn look(alloc: Global, program: &Program, top: &mut Frame) -> Result<Acted, 
     Ok(act_at_place(&mut copy, program))
 }
 
-/// Makes steps of the thread alone until there is none, or until 4,096 were made since the last reply. It answers what the
+/// Makes steps of the thread alone until there is none, or until `MOST_LOCAL_STEPS` were made since the last reply. It answers what the
 /// instruction of the top frame does then, which is not done yet.
 pub fn settle(
     alloc: Global,
@@ -121,16 +122,16 @@ pub fn settle(
     steps: &mut u32,
 ) -> Result<Acted, NoMemory>
     requires small { IsSmall program.now }
-    requires few { length program.now.methods ≤ 1048576 }
-    requires steps { steps.old ≤ 4096 }
+    requires few { length program.now.methods ≤ MOST_TEXT_BYTES }
+    requires steps { steps.old ≤ MOST_LOCAL_STEPS }
     requires below { AreAtCalls (callers below.old.items) }
     ensures ok { IfOk result (λ acted. IsSettled program.now (Running (frames_of top.old below.old.items) Plain) steps.old (plain top.new) (callers below.new.items) steps.new acted) }
     ensures stands { IfOk result (λ acted. Stands acted top.new) }
     ensures err { OnErr result (IsOnTheWay program.now (Running (frames_of top.old below.old.items) Plain) steps.old (Running (frames_of top.new below.new.items) Plain) steps.new) }
-    ensures steps { steps.new ≤ 4096 }
+    ensures steps { steps.new ≤ MOST_LOCAL_STEPS }
     ensures below { AreAtCalls (callers below.new.items) }
 {
-    while *steps < 4096 {
+    while *steps < MOST_LOCAL_STEPS {
         if let Some(acted) = step(alloc, program, top, below)? {
             return Ok(acted);
         }

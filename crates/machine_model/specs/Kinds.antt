@@ -1,6 +1,7 @@
 -- Classes, their supers, and which kind may stand for which.
 use Rattle.std.specs.Prelude.{ℕ, zero, suc, ◌==◌, Bool, true, false, ◌&&◌, ◌||◌, if◌then◌else◌, nat_lt, nat_le, List, [], ◌∷◌, ◌++◌, map, Option, Some, None, slice_get, is_some, pos}
 use Rattle.std.specs.List.{list_any}
+use Rattle.vm_model.specs.declared.limits.TheConstants.{FIRST_USER_CLASS}
 use Rattle.vm_model.specs.declared.value.Value.{Value}
 use Rattle.vm_model.specs.declared.value.Value.TheVariants as value
 use Rattle.vm_model.specs.declared.value.Kind.{Kind}
@@ -8,25 +9,17 @@ use Rattle.vm_model.specs.declared.value.Kind.TheVariants as kind
 use Rattle.vm_model.specs.declared.program.Field.{Field}
 use Rattle.vm_model.specs.declared.program.StaticSlot.{StaticSlot}
 use Rattle.vm_model.specs.Program.{PlainClass}
+use Rattle.built_in_classes.specs.declared.numbers.TheConstants.{BUILT_IN_COUNT, LONGEST_CHAIN, OBJECT, PRINT_STREAM, RUNNABLE, STRING, THREAD}
+use Rattle.built_in_classes.specs.Classes.{built_in_super}
 use Rattle.machine_model.specs.Declarations.{Declarations, class_at, static_at}
-
--- the super of each built-in class, by number: Object, Thread, Runnable, String, PrintStream, and the throwables
-abbrev pub built_in_supers : List (Option ℕ)
-built_in_supers =
-    None ∷ Some 0 ∷ Some 0 ∷ None ∷ None ∷ Some 0 ∷ Some 5 ∷ Some 6 ∷ Some 5 ∷ Some 7 ∷ Some 7 ∷ Some 7 ∷ Some 11 ∷ Some 7 ∷ Some 7 ∷ Some 7
-    ∷ Some 14 ∷ Some 7 ∷ Some 6 ∷ Some 8 ∷ Some 19 ∷ Some 19 ∷ Some 8 ∷ []
-
-abbrev pub listed_super : Option (Option ℕ) → Option ℕ
-listed_super None = None
-listed_super (Some super) = super
 
 abbrev pub user_super : Option PlainClass → Option ℕ
 user_super None = None
-user_super (Some class) = Some (if class.is_thread then 1 else 0)
+user_super (Some class) = Some (if class.is_thread then THREAD else OBJECT)
 
 -- the class that a class extends
 abbrev pub super_of : Declarations → ℕ → Option ℕ
-super_of d class = if nat_le 32 class then user_super (class_at d class) else listed_super (slice_get built_in_supers class)
+super_of d class = if nat_le FIRST_USER_CLASS class then user_super (class_at d class) else built_in_super class
 
 -- a class and its supers, of which at most so many are looked at
 abbrev pub supers_within : ℕ → Declarations → Option ℕ → List ℕ
@@ -34,9 +27,9 @@ supers_within zero d class = []
 supers_within (suc n) d None = []
 supers_within (suc n) d (Some class) = class ∷ supers_within n d (super_of d class)
 
--- a class and its supers: no chain is longer than six
+-- a class and its supers: no chain is longer
 unfoldable pub chain : Declarations → ℕ → List ℕ
-chain d class = supers_within 6 d (Some class)
+chain d class = supers_within LONGEST_CHAIN d (Some class)
 
 abbrev pub is_thread : Option PlainClass → Bool
 is_thread None = false
@@ -48,18 +41,18 @@ is_runnable (Some class) = class.is_runnable || class.is_thread
 
 -- Thread itself, and the classes that extend it
 abbrev pub is_thread_class : Declarations → ℕ → Bool
-is_thread_class d class = class == 1 || is_thread (class_at d class)
+is_thread_class d class = class == THREAD || is_thread (class_at d class)
 
 -- the classes that may stand for Runnable
 abbrev pub is_runnable_class : Declarations → ℕ → Bool
-is_runnable_class d class = class == 1 || is_runnable (class_at d class)
+is_runnable_class d class = class == THREAD || is_runnable (class_at d class)
 
 abbrev pub is_class : Declarations → ℕ → Bool
-is_class d class = nat_lt class 23 || is_some (class_at d class)
+is_class d class = nat_lt class BUILT_IN_COUNT || is_some (class_at d class)
 
 -- a reference to the first class may stand for one to the second
 abbrev pub extends : Declarations → ℕ → ℕ → Bool
-extends d class super = list_any (λ c. c == super) (chain d class) || (super == 2 && is_runnable_class d class)
+extends d class super = list_any (λ c. c == super) (chain d class) || (super == RUNNABLE && is_runnable_class d class)
 
 -- a value of the first kind may stand where the second is wanted
 abbrev pub is_assignable : Declarations → Kind → Kind → Bool
@@ -80,7 +73,7 @@ is_assignable d (kind.Ref c) kind.Arr = false
 is_assignable d (kind.Ref c) kind.Args = false
 is_assignable d kind.Arr kind.Int = false
 is_assignable d kind.Arr kind.Null = false
-is_assignable d kind.Arr (kind.Ref super) = super == 0
+is_assignable d kind.Arr (kind.Ref super) = super == OBJECT
 is_assignable d kind.Arr kind.Arr = true
 is_assignable d kind.Arr kind.Args = false
 is_assignable d kind.Args kind.Int = false
@@ -95,8 +88,8 @@ own_kind (value.Int n) = kind.Int
 own_kind value.Null = kind.Null
 own_kind (value.Obj id class) = kind.Ref class
 own_kind (value.Arr id len) = kind.Arr
-own_kind (value.Text text) = kind.Ref 3
-own_kind value.Stream = kind.Ref 4
+own_kind (value.Text text) = kind.Ref STRING
+own_kind value.Stream = kind.Ref PRINT_STREAM
 
 abbrev pub is_null : Value → Bool
 is_null (value.Int n) = false
@@ -138,7 +131,7 @@ declared_kinds (Some class) = map kind_of_field class.fields
 
 -- the fields of a class: threads have a hidden first one, their Runnable target
 abbrev pub field_kinds : Declarations → ℕ → List Kind
-field_kinds d class = (if is_thread_class d class then kind.Ref 2 ∷ [] else []) ++ declared_kinds (class_at d class)
+field_kinds d class = (if is_thread_class d class then kind.Ref RUNNABLE ∷ [] else []) ++ declared_kinds (class_at d class)
 
 -- what a field holds at first
 abbrev pub first_value : Kind → Value

@@ -1,5 +1,6 @@
 -- One thread by itself: its local steps, the operation that it asks for next, and what a reply does to it.
 use Rattle.std.specs.Prelude.{ℕ, zero, suc, ◌-◌, Bool, false, if◌then◌else◌, nat_lt, List, [], ◌∷◌, ◌++◌, length, reverse, take, drop, replicate, Option, Some, None}
+use Rattle.vm_model.specs.declared.limits.TheConstants.{MOST_FRAMES, MOST_LOCAL_STEPS}
 use Rattle.vm_model.specs.declared.value.Value.{Value}
 use Rattle.vm_model.specs.declared.value.Value.TheVariants as value
 use Rattle.vm_model.specs.declared.value.Lock.{Lock}
@@ -54,7 +55,7 @@ moved_back given (Some l) below = None
 
 -- a synchronized method first enters its lock, and no thread has more than 256 frames
 abbrev pub moved_in : PlainProgram → ℕ → Option Lock → Frame → List Frame → Option LocalState
-moved_in p m None f below = if nat_lt (length below) 255 then Some (Running (call_frames p m None f below) Plain) else None
+moved_in p m None f below = if nat_lt (length below) (MOST_FRAMES - 1) then Some (Running (call_frames p m None f below) Plain) else None
 moved_in p m (Some l) f below = None
 
 -- the local step that an action of the top frame f makes, if it makes one
@@ -87,7 +88,7 @@ settled_within p (suc n) l = go_on (local_step p l) l (settled_within p n)
 
 -- after at most 4,096 local steps
 abbrev pub settled : PlainProgram → LocalState → LocalState
-settled p l = settled_within p 4096 l
+settled p l = settled_within p MOST_LOCAL_STEPS l
 
 -- ---- operations
 
@@ -97,7 +98,7 @@ fault_at kind f = op.Fault kind f.method f.place
 -- the operation of a call that is no local step
 abbrev pub asked_in : Option Lock → Frame → List Frame → Op
 asked_in None f below = fault_at fault.StackOverflow f
-asked_in (Some l) f below = if nat_lt (length below) 255 then op.Enter l else fault_at fault.StackOverflow f
+asked_in (Some l) f below = if nat_lt (length below) (MOST_FRAMES - 1) then op.Enter l else fault_at fault.StackOverflow f
 
 abbrev pub asked_back : Option Lock → Op
 asked_back None = op.ThreadEnd

@@ -3,6 +3,7 @@
 use Rattle.std.specs.Prelude.{◌≡◌, ℕ, ◌+◌, ◌==◌, pos, Bool, true, false, ◌&&◌, ◌||◌, not, if◌then◌else◌, nat_lt, nat_le, List, [], ◌∷◌, ◌++◌, length, map, replicate, Option, Some, None, slice_get, slice_set, is_none, is_some, codes}
 use Rattle.std.specs.Fmt.{signed_decimal}
 use Rattle.std.specs.List.{list_any}
+use Rattle.vm_model.specs.declared.limits.TheConstants.{MOST_HEAP_WORDS, MOST_OBJECTS, MOST_OUTPUT_BYTES, MOST_THREADS}
 use Rattle.vm_model.specs.declared.value.Value.{Value}
 use Rattle.vm_model.specs.declared.value.Value.TheVariants as value
 use Rattle.vm_model.specs.declared.value.Lock.{Lock}
@@ -204,7 +205,7 @@ with_word s id place v = record s { heap = put_word (slice_get s.heap id) place 
 
 -- room for one more object or array of so many words, itself included
 abbrev pub has_room : SharedState → ℕ → Bool
-has_room s words = nat_lt (length s.heap) 262144 && nat_le (words_of s.heap + words) 4194304
+has_room s words = nat_lt (length s.heap) MOST_OBJECTS && nat_le (words_of s.heap + words) MOST_HEAP_WORDS
 
 abbrev pub with_item : SharedState → HeapItem → SharedState
 with_item s item = record s { heap = s.heap ++ item ∷ []; monitors = with_object s.monitors }
@@ -274,13 +275,13 @@ printed d what newline = piece_bytes d what ++ (if newline then 10 ∷ [] else [
 
 abbrev pub print : SharedState → List ℕ → Applied
 print s bytes =
-    if nat_le (length s.output + length bytes) 16777216 then answers (record s { output = s.output ++ bytes }) reply.Unit
+    if nat_le (length s.output + length bytes) MOST_OUTPUT_BYTES then answers (record s { output = s.output ++ bytes }) reply.Unit
     else answers s (reply.Raise fault.OutputFull)
 
 abbrev pub begin : SharedState → ObjRef → Applied
 begin s target =
     if was_started s target.id then answers s (reply.Raise fault.ThreadState)
-    else if nat_lt (length s.rows) 64
+    else if nat_lt (length s.rows) MOST_THREADS
     then answers (record s { rows = s.rows ++ record { state = row_state.Live; target = Some target; kept = None } ∷ [] }) (reply.Began (length s.rows))
     else answers s (reply.Raise fault.ThreadsFull)
 

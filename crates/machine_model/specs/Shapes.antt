@@ -1,11 +1,13 @@
 -- Shapes: the kinds of the operands and the locals at each instruction that is reached, and when a table of them is closed.
 use Rattle.std.specs.Prelude.{◌≡◌, ℕ, ◌+◌, ◌-◌, ◌==◌, ◌≤◌, Bool, true, false, ◌&&◌, not, if◌then◌else◌, IsTrue, List, [], ◌∷◌, ◌++◌, length, reverse, map, replicate, Option, Some, None, slice_get, slice_set, unwrap_or}
 use Rattle.std.specs.List.{list_any}
+use Rattle.vm_model.specs.declared.limits.TheConstants.{MOST_OPERANDS}
 use Rattle.vm_model.specs.declared.value.Kind.{Kind}
 use Rattle.vm_model.specs.declared.value.Kind.TheVariants as kind
 use Rattle.vm_model.specs.declared.instr.Instr.{Instr}
 use Rattle.vm_model.specs.declared.instr.Instr.TheVariants as instr
 use Rattle.vm_model.specs.Program.{PlainMethod, PlainProgram, instr_at, locals_of, method_at}
+use Rattle.built_in_classes.specs.declared.numbers.TheConstants.{OBJECT, PRINT_STREAM, RUNNABLE, STRING, THREAD, THROWABLE}
 use Rattle.machine_model.specs.Declarations.{declarations_of}
 use Rattle.machine_model.specs.Kinds.{chain, field_kinds, is_args, is_assignable, static_kind}
 
@@ -140,7 +142,7 @@ flow_return p (Some wanted) (Some k) = where_true (is_assignable (declarations_o
 abbrev pub flow : PlainProgram → ℕ → Instr → Shape → Flow
 flow p m instr.Nop s = Next s
 flow p m (instr.Push n) s = Next (with_stack s (kind.Int ∷ s.stack))
-flow p m (instr.PushText text) s = Next (with_stack s (kind.Ref 3 ∷ s.stack))
+flow p m (instr.PushText text) s = Next (with_stack s (kind.Ref STRING ∷ s.stack))
 flow p m instr.PushNull s = Next (with_stack s (kind.Null ∷ s.stack))
 flow p m (instr.Iload i) s = on_set (slice_get s.locals i) (λ k. where_true (is_int k) (Next (with_stack s (kind.Int ∷ s.stack))))
 flow p m (instr.Istore i) s = on_int s.stack (λ rest. on_place (slice_get s.locals i) (Next (with_local s rest i kind.Int)))
@@ -184,7 +186,7 @@ flow p m (instr.Ifnull to) s = on_such is_reference s.stack (λ rest. Branch to 
 flow p m (instr.Ifnonnull to) s = on_such is_reference s.stack (λ rest. Branch to (with_stack s rest))
 flow p m (instr.Goto to) s = Jump to s
 flow p m instr.ArrayLength s = on_such is_array s.stack (λ rest. Next (with_stack s (kind.Int ∷ rest)))
-flow p m instr.Out s = Next (with_stack s (kind.Ref 4 ∷ s.stack))
+flow p m instr.Out s = Next (with_stack s (kind.Ref PRINT_STREAM ∷ s.stack))
 flow p m (instr.GetStatic slot) s = on_declared (static_kind (declarations_of p) slot) (λ k. Next (with_stack s (k ∷ s.stack)))
 flow p m (instr.PutStatic slot) s = on_declared (static_kind (declarations_of p) slot) (λ k. on_assignable p k s.stack (λ rest. Next (with_stack s rest)))
 flow p m (instr.GetField class place) s =
@@ -196,25 +198,25 @@ flow p m instr.Iaload s = on_int s.stack (λ rest. on_such is_array rest (λ res
 flow p m instr.Iastore s = on_ints s.stack (λ rest. on_such is_array rest (λ rest'. Next (with_stack s rest')))
 flow p m (instr.New class) s = Next (with_stack s (kind.Ref class ∷ s.stack))
 flow p m instr.NewArray s = on_int s.stack (λ rest. Next (with_stack s (kind.Arr ∷ rest)))
-flow p m instr.MonitorEnter s = on_assignable p (kind.Ref 0) s.stack (λ rest. Next (with_stack s rest))
-flow p m instr.MonitorExit s = on_assignable p (kind.Ref 0) s.stack (λ rest. Next (with_stack s rest))
-flow p m instr.Athrow s = on_assignable p (kind.Ref 5) s.stack (λ rest. Leaves)
+flow p m instr.MonitorEnter s = on_assignable p (kind.Ref OBJECT) s.stack (λ rest. Next (with_stack s rest))
+flow p m instr.MonitorExit s = on_assignable p (kind.Ref OBJECT) s.stack (λ rest. Next (with_stack s rest))
+flow p m instr.Athrow s = on_assignable p (kind.Ref THROWABLE) s.stack (λ rest. Leaves)
 flow p m (instr.InvokeStatic callee) s = where_true (is_called_so true (method_at p callee)) (flow_call p [] (method_at p callee) s)
 flow p m (instr.InvokeVirtual callee) s = where_true (is_called_so false (method_at p callee)) (flow_call p (receiver_of (method_at p callee)) (method_at p callee) s)
 flow p m (instr.InvokeSpecial callee) s = where_true (is_called_so false (method_at p callee)) (flow_call p (receiver_of (method_at p callee)) (method_at p callee) s)
 flow p m (instr.RunOf class) s = on_assignable p (kind.Ref class) s.stack (λ rest. Next (with_stack s rest))
-flow p m instr.Wait s = on_assignable p (kind.Ref 0) s.stack (λ rest. Next (with_stack s rest))
-flow p m instr.Notify s = on_assignable p (kind.Ref 0) s.stack (λ rest. Next (with_stack s rest))
-flow p m instr.NotifyAll s = on_assignable p (kind.Ref 0) s.stack (λ rest. Next (with_stack s rest))
-flow p m instr.Start s = on_assignable p (kind.Ref 1) s.stack (λ rest. Next (with_stack s rest))
-flow p m instr.Join s = on_assignable p (kind.Ref 1) s.stack (λ rest. Next (with_stack s rest))
+flow p m instr.Wait s = on_assignable p (kind.Ref OBJECT) s.stack (λ rest. Next (with_stack s rest))
+flow p m instr.Notify s = on_assignable p (kind.Ref OBJECT) s.stack (λ rest. Next (with_stack s rest))
+flow p m instr.NotifyAll s = on_assignable p (kind.Ref OBJECT) s.stack (λ rest. Next (with_stack s rest))
+flow p m instr.Start s = on_assignable p (kind.Ref THREAD) s.stack (λ rest. Next (with_stack s rest))
+flow p m instr.Join s = on_assignable p (kind.Ref THREAD) s.stack (λ rest. Next (with_stack s rest))
 flow p m instr.Yield s = Next s
-flow p m (instr.Init class true) s = on_all p (kind.Ref 3 ∷ kind.Ref class ∷ []) s.stack (λ rest. Next (with_stack s rest))
+flow p m (instr.Init class true) s = on_all p (kind.Ref STRING ∷ kind.Ref class ∷ []) s.stack (λ rest. Next (with_stack s rest))
 flow p m (instr.Init class false) s = on_assignable p (kind.Ref class) s.stack (λ rest. Next (with_stack s rest))
-flow p m instr.InitRunnable s = on_all p (kind.Ref 2 ∷ kind.Ref 1 ∷ []) s.stack (λ rest. Next (with_stack s rest))
-flow p m instr.Println s = on_assignable p (kind.Ref 4) s.stack (λ rest. Next (with_stack s rest))
-flow p m (instr.PrintInt newline) s = on_int s.stack (λ rest. on_assignable p (kind.Ref 4) rest (λ rest'. Next (with_stack s rest')))
-flow p m (instr.PrintText newline) s = on_all p (kind.Ref 3 ∷ kind.Ref 4 ∷ []) s.stack (λ rest. Next (with_stack s rest))
+flow p m instr.InitRunnable s = on_all p (kind.Ref RUNNABLE ∷ kind.Ref THREAD ∷ []) s.stack (λ rest. Next (with_stack s rest))
+flow p m instr.Println s = on_assignable p (kind.Ref PRINT_STREAM) s.stack (λ rest. Next (with_stack s rest))
+flow p m (instr.PrintInt newline) s = on_int s.stack (λ rest. on_assignable p (kind.Ref PRINT_STREAM) rest (λ rest'. Next (with_stack s rest')))
+flow p m (instr.PrintText newline) s = on_all p (kind.Ref STRING ∷ kind.Ref PRINT_STREAM ∷ []) s.stack (λ rest. Next (with_stack s rest))
 flow p m instr.Return s = flow_return p (given_kind (method_at p m)) None
 flow p m instr.Ireturn s = on_int s.stack (λ rest. flow_return p (given_kind (method_at p m)) (Some kind.Int))
 flow p m instr.Areturn s = on_kind s.stack (λ k rest. where_true (not (is_int k)) (flow_return p (given_kind (method_at p m)) (Some k)))
@@ -237,7 +239,7 @@ is_subsumed p (kind.Ref c) kind.Arr = false
 is_subsumed p (kind.Ref c) kind.Args = false
 is_subsumed p kind.Arr kind.Int = false
 is_subsumed p kind.Arr kind.Null = false
-is_subsumed p kind.Arr (kind.Ref d) = d == 0
+is_subsumed p kind.Arr (kind.Ref d) = d == OBJECT
 is_subsumed p kind.Arr kind.Arr = true
 is_subsumed p kind.Arr kind.Args = false
 is_subsumed p kind.Args k = is_args k
@@ -292,7 +294,7 @@ abbrev pub first_shape : PlainMethod → Shape
 first_shape m = record { stack = []; locals = map Some (parameters m) ++ replicate (locals_of m - length (parameters m)) None }
 
 pub record IsWithinLimits (m : PlainMethod) (s : Shape) : Type 0 where
-  pub stack : length s.stack ≤ unwrap_or m.max_stack 1024
+  pub stack : length s.stack ≤ unwrap_or m.max_stack MOST_OPERANDS
   pub locals : length s.locals ≡ locals_of m
 
 abbrev pub HasShapes : PlainProgram → Table → ℕ → Option PlainMethod → Type 0

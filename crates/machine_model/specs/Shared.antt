@@ -1,6 +1,7 @@
 -- The world that the threads share: statics, objects and arrays, monitors, threads, output and the fault.
 use Rattle.std.specs.Prelude.{ℕ, ◌+◌, ◌-◌, ◌==◌, Bool, true, false, if◌then◌else◌, nat_le, List, [], ◌∷◌, ◌++◌, length, map, replicate, drop, Option, Some, None, slice_get, slice_set, is_none}
 use Rattle.std.specs.Prelude.{sum_by}
+use Rattle.vm_model.specs.declared.limits.TheConstants.{FIRST_USER_CLASS}
 use Rattle.vm_model.specs.declared.value.Value.{Value}
 use Rattle.vm_model.specs.declared.value.Lock.{Lock}
 use Rattle.vm_model.specs.declared.value.Lock.TheVariants as lock
@@ -45,12 +46,12 @@ free_monitor = record { owner = None; count = 0; waiters = [] }
 -- the monitor of a lock, if there is such a lock
 abbrev pub monitor_at : Monitors → Lock → Option Monitor
 monitor_at ms (lock.Object id) = slice_get ms.objects id
-monitor_at ms (lock.Class class) = if nat_le 32 class then slice_get ms.classes (class - 32) else None
+monitor_at ms (lock.Class class) = if nat_le FIRST_USER_CLASS class then slice_get ms.classes (class - FIRST_USER_CLASS) else None
 
 -- the monitors with this one for the lock, and all others as they were
 abbrev pub with_monitor : Monitors → Lock → Monitor → Monitors
 with_monitor ms (lock.Object id) m = record { objects = slice_set ms.objects id m; classes = ms.classes }
-with_monitor ms (lock.Class class) m = record { objects = ms.objects; classes = slice_set ms.classes (class - 32) m }
+with_monitor ms (lock.Class class) m = record { objects = ms.objects; classes = slice_set ms.classes (class - FIRST_USER_CLASS) m }
 
 abbrev pub is_thread_number : Option ℕ → ℕ → Bool
 is_thread_number None t = false

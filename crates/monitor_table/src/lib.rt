@@ -3,7 +3,5 @@
 
 mod monitor;
 mod table;
-#[cfg(test)]
-mod tests;
 
 pub use table::{MonitorTable, Owned, Waited};

@@ -99,7 +99,7 @@ impl Monitor {
         }
     }
 
-    /// Its owner gives it up, however often it had entered it, and waits behind all others. After `NoMemory` nothing is
+    /// Its owner gives it up, however often it had entered it, and waits after all others. After `NoMemory` nothing is
     /// changed.
     pub fn wait(&mut self, thread: u32) -> Result<(), NoMemory>
         requires { length self.old.waiters < 2 ^ 32 - 1 }

@@ -6,7 +6,7 @@ ghost use Rattle.std.specs.Option.{option_copied};
 use crate::monitor::Monitor;
 use std::alloc::Global;
 use std::marker::Model;
-use vm_model::{Lock, NoMemory};
+use vm_model::{FIRST_USER_CLASS, Lock, NoMemory};
 
 /// What a call did that only the owner of a lock may make.
 #[derive(Clone, Copy, Debug, PartialEq, Eq)]
@@ -95,10 +95,10 @@ impl MonitorTable {
         match lock {
             Lock::Object(id) => self.objects.get(id as usize),
             Lock::Class(class) => {
-                if class < 32 {
+                if class < FIRST_USER_CLASS {
                     None
                 } else {
-                    self.classes.get(class as usize - 32)
+                    self.classes.get((class - FIRST_USER_CLASS) as usize)
                 }
             }
         }
@@ -199,7 +199,7 @@ impl MonitorTable {
     {
         match lock {
             Lock::Object(id) => self.objects[id as usize].enter(thread),
-            Lock::Class(class) => self.classes[class as usize - 32].enter(thread),
+            Lock::Class(class) => self.classes[(class - FIRST_USER_CLASS) as usize].enter(thread),
         }
     }
 
@@ -214,12 +214,12 @@ impl MonitorTable {
         }
         match lock {
             Lock::Object(id) => self.objects[id as usize].exit(),
-            Lock::Class(class) => self.classes[class as usize - 32].exit(),
+            Lock::Class(class) => self.classes[(class - FIRST_USER_CLASS) as usize].exit(),
         }
         Owned::Done
     }
 
-    /// The thread gives the lock up wholly and waits behind all others. After `NoMemory` nothing is changed.
+    /// The thread gives the lock up wholly and waits after all others. After `NoMemory` nothing is changed.
     pub fn wait(&mut self, lock: Lock, thread: u32) -> Result<Waited, NoMemory>
         requires exists { IsSome (monitor_at self.old lock) }
         requires few { length (monitor_of self.old lock).waiters < 2 ^ 32 - 1 }
@@ -233,7 +233,7 @@ impl MonitorTable {
         let count = self.count(lock);
         match lock {
             Lock::Object(id) => self.objects[id as usize].wait(thread)?,
-            Lock::Class(class) => self.classes[class as usize - 32].wait(thread)?,
+            Lock::Class(class) => self.classes[(class - FIRST_USER_CLASS) as usize].wait(thread)?,
         }
         Ok(Waited::Count(count))
     }
@@ -245,7 +245,9 @@ impl MonitorTable {
     {
         match lock {
             Lock::Object(id) => self.objects[id as usize].resume(thread, count),
-            Lock::Class(class) => self.classes[class as usize - 32].resume(thread, count),
+            Lock::Class(class) => self.classes[(class - FIRST_USER_CLASS) as usize].resume(
+                thread, count,
+            ),
         }
     }
 
@@ -260,7 +262,7 @@ impl MonitorTable {
         }
         match lock {
             Lock::Object(id) => self.objects[id as usize].notify(),
-            Lock::Class(class) => self.classes[class as usize - 32].notify(),
+            Lock::Class(class) => self.classes[(class - FIRST_USER_CLASS) as usize].notify(),
         }
         Owned::Done
     }
@@ -285,7 +287,7 @@ impl MonitorTable {
     {
         match lock {
             Lock::Object(id) => self.objects[id as usize].notify_all(),
-            Lock::Class(class) => self.classes[class as usize - 32].notify_all(),
+            Lock::Class(class) => self.classes[(class - FIRST_USER_CLASS) as usize].notify_all(),
         }
     }
 

@@ -25,7 +25,7 @@ pub starts_next : (p : PlainProgram) (s : SharedState) (e : Entry) → (apply (d
 starts_next p s e replied target u is began =
     apply_next p (declarations_of p) s e.thread target u (subst (λ (o : Op). (apply (declarations_of p) s e.thread o).reply ≡ e.reply) is replied ∙ began)
 
--- the machine behind an entry
+-- the machine after an entry
 abbrev pub machine_behind : PlainProgram → MachineState → Entry → LocalState → MachineState
 machine_behind p m e l = record { world = (apply (declarations_of p) m.world e.thread e.op).world; locals = states_behind p m.locals e l; history = m.history ++ e ∷ [] }
 

@@ -25,7 +25,7 @@ state_or p (Some l) target = Some l
 abbrev pub first_from : PlainProgram → List LocalState → List Entry → ℕ → Option LocalState
 first_from p ls h t = state_or p (slice_get ls t) (target_in h t)
 
--- the states behind an entry of this thread, which stood at l
+-- the states after an entry of this thread, which stood at l
 abbrev pub states_behind : PlainProgram → List LocalState → Entry → LocalState → List LocalState
 states_behind p ls e l = slice_set ls e.thread (settled p (absorb p l e.op e.reply)) ++ begun p e.op e.reply
 
@@ -66,7 +66,7 @@ started_if p target other n zero = let same : (n == n + 0) ≡ true = rw_same n 
     rw_same n = subst (λ (m : ℕ). (n == m) ≡ true) (omega arith) (same_self n)
 started_if p target other n (suc k) = let apart : (n == n + suc k) ≡ false = differ n (n + suc k) (λ e. omega (arith, e)) in rw apart refl
 
--- behind the states that were there stands the thread that is started
+-- after the states that were there stands the thread that is started
 started_so : (p : PlainProgram) (o : Op) (r : Reply) (other : Option ObjRef) (n k : ℕ) → ((target : ObjRef) (u : ℕ) → o ≡ op.Start target → r ≡ reply.Began u → u ≡ n) → state_or p (slice_get (begun p o r) k) other ≡ begun_for p (target_or (target_by o r (n + k)) other)
 started_so p (op.Start target) (reply.Began u) other n k next =
     started_if p target other n k ∙ ap (λ (m : ℕ). begun_for p (target_or (cond (m == n + k) (Some target) None) other)) (sym (next target u refl refl))
@@ -105,7 +105,7 @@ stands_elsewhere p ls e es l t next apart = by_place (slice_get ls t) refl
 
 -- ---- both
 
--- where the entries from this one on lead a thread, those behind it lead it too
+-- where the entries from this one on lead a thread, those after it lead it too
 pub go_behind : (p : PlainProgram) (ls : List LocalState) (e : Entry) (es : List Entry) (l : LocalState) (t : ℕ) (end : LocalState) → slice_get ls e.thread ≡ Some l → StartsNext e (length ls)
     → GoesFrom p (first_from p ls (e ∷ es) t) (own t (e ∷ es)) end → GoesFrom p (first_from p (states_behind p ls e l) es t) (own t es) end
 go_behind p ls e es l t end at next goes = by_thread (e.thread == t) refl

@@ -1,20 +1,11 @@
 -- How classes and methods are named in printed texts.
 use Rattle.std.specs.Prelude.{ℕ, if◌then◌else◌, nat_le, List, [], ◌∷◌, ◌++◌, Option, Some, None, slice_get, unwrap_or, codes}
 use Rattle.std.specs.List.{flat_map}
+use Rattle.vm_model.specs.declared.limits.TheConstants.{FIRST_USER_CLASS}
 use Rattle.vm_model.specs.declared.value.Kind.{Kind}
 use Rattle.vm_model.specs.declared.value.Kind.TheVariants as kind
 use Rattle.vm_model.specs.Program.{PlainClass, PlainMethod, PlainProgram, class_at, method_at}
-
--- the names of the built-in classes, by number
-abbrev pub built_in_names : List (List ℕ)
-built_in_names =
-    codes "java/lang/Object" ∷ codes "java/lang/Thread" ∷ codes "java/lang/Runnable" ∷ codes "java/lang/String" ∷ codes "java/io/PrintStream"
-    ∷ codes "java/lang/Throwable" ∷ codes "java/lang/Exception" ∷ codes "java/lang/RuntimeException" ∷ codes "java/lang/Error"
-    ∷ codes "java/lang/ArithmeticException" ∷ codes "java/lang/NullPointerException" ∷ codes "java/lang/IndexOutOfBoundsException"
-    ∷ codes "java/lang/ArrayIndexOutOfBoundsException" ∷ codes "java/lang/NegativeArraySizeException" ∷ codes "java/lang/IllegalArgumentException"
-    ∷ codes "java/lang/IllegalMonitorStateException" ∷ codes "java/lang/IllegalThreadStateException" ∷ codes "java/lang/IllegalStateException"
-    ∷ codes "java/lang/InterruptedException" ∷ codes "java/lang/VirtualMachineError" ∷ codes "java/lang/StackOverflowError"
-    ∷ codes "java/lang/OutOfMemoryError" ∷ codes "java/lang/AssertionError" ∷ []
+use Rattle.built_in_classes.specs.Classes.{built_in_name}
 
 abbrev pub user_name : Option PlainClass → List ℕ
 user_name None = []
@@ -22,7 +13,7 @@ user_name (Some class) = class.name
 
 -- the name of a class of the program
 abbrev pub class_name : PlainProgram → ℕ → List ℕ
-class_name p class = if nat_le 32 class then user_name (class_at p class) else unwrap_or (slice_get built_in_names class) []
+class_name p class = if nat_le FIRST_USER_CLASS class then user_name (class_at p class) else built_in_name class
 
 -- a descriptor (JVMS SE 8 §4.3)
 abbrev pub descriptor : PlainProgram → Kind → List ℕ

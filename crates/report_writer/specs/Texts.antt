@@ -1,5 +1,6 @@
 -- The printed texts, as functions of plain data.
-use Rattle.std.specs.Prelude.{ℕ, List, [], ◌∷◌, ◌++◌, length, codes, decimal}
+use Rattle.std.specs.Prelude.{ℕ, ◌==◌, if◌then◌else◌, List, [], ◌∷◌, ◌++◌, length, slice_index, codes, decimal}
+use Rattle.std.specs.List.{flat_map, range_with_len}
 use Rattle.vm_model.specs.declared.ends.End.{End}
 use Rattle.vm_model.specs.declared.ends.End.TheVariants as end
 use Rattle.vm_model.specs.declared.ends.Fault.{Fault}
@@ -47,3 +48,27 @@ counted word n = word ++ codes " " ++ decimal n ++ line_feed
 abbrev pub run_text : PlainProgram → ℕ → ℕ → End → List ℕ → List ℕ
 run_text p events intervals e output =
     counted (codes "events") events ++ counted (codes "intervals") intervals ++ end_text p e ++ counted (codes "output") (length output) ++ output
+
+-- ---- isolations
+
+-- a time after a space
+abbrev pub time_word : ℕ → List ℕ
+time_word time = codes " " ++ decimal time
+
+-- a word and the times of a schedule on a line
+abbrev pub times_line : List ℕ → List ℕ → List ℕ
+times_line word times = word ++ flat_map time_word times ++ line_feed
+
+-- a place and its times in both schedules, on a line, where they differ
+abbrev pub place_line : List ℕ → List ℕ → ℕ → List ℕ
+place_line passing failing place =
+    if slice_index passing place == slice_index failing place then [] else codes "place" ++ time_word place ++ time_word (slice_index passing place) ++ time_word (slice_index failing place) ++ line_feed
+
+abbrev pub place_lines : List ℕ → List ℕ → List ℕ
+place_lines passing failing = flat_map (place_line passing failing) (range_with_len 0 (length passing))
+
+-- an isolation: both schedules, the places where they differ, by how many units, and how many tests were made and unresolved
+abbrev pub isolated_text : List ℕ → List ℕ → ℕ → ℕ → ℕ → List ℕ
+isolated_text passing failing units asked unresolved =
+    times_line (codes "pass") passing ++ times_line (codes "fail") failing ++ place_lines passing failing
+    ++ counted (codes "units") units ++ counted (codes "asked") asked ++ counted (codes "unresolved") unresolved

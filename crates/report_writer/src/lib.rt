@@ -1,11 +1,12 @@
 //! The texts that the tool prints.
 #![tactic(auto)]
 
+mod isolation;
 mod names;
 mod report;
+mod state;
 
-pub use names::put_method;
-pub use report::{end_text, run_text};
-
-#[cfg(test)]
-mod tests;
+pub use isolation::isolated_text;
+pub use names::{put, put_method, put_number};
+pub use report::{end_text, put_counted, run_text};
+pub use state::state_text;

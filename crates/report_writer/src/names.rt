@@ -1,9 +1,10 @@
 ghost use Rattle.std.specs.Prelude.{◌≡◌, ◌++◌, List, ℕ, OnOk, decimal, Some, [], slice_get, unwrap_or};
 ghost use Rattle.std.specs.List.{flat_map};
-ghost use Rattle.report_writer.specs.Names.{built_in_names, class_name, descriptor as descriptor_text, method_name, name_of_method, return_descriptor};
+ghost use Rattle.report_writer.specs.Names.{class_name, descriptor as descriptor_text, method_name, name_of_method, return_descriptor};
 
+use built_in_classes::built_in_name;
 use itoa::Buffer;
-use vm_model::{Kind, Method, NoMemory, Program};
+use vm_model::{FIRST_USER_CLASS, Kind, Method, NoMemory, Program};
 
 /// Adds bytes at the end.
 pub fn put(out: &mut Vec<u8>, bytes: &[u8]) -> Result<(), NoMemory>
@@ -21,43 +22,11 @@ pub fn put_number(out: &mut Vec<u8>, n: u64) -> Result<(), NoMemory>
     put(out, buffer.format(n).as_bytes())
 }
 
-/// The name of a built-in class; none where there is no such class.
-fn built_in_name(class: u32) -> &'static [u8]
-    ensures { result.now ≡ unwrap_or (slice_get built_in_names class) [] }
-{
-    match class {
-        0 => b"java/lang/Object",
-        1 => b"java/lang/Thread",
-        2 => b"java/lang/Runnable",
-        3 => b"java/lang/String",
-        4 => b"java/io/PrintStream",
-        5 => b"java/lang/Throwable",
-        6 => b"java/lang/Exception",
-        7 => b"java/lang/RuntimeException",
-        8 => b"java/lang/Error",
-        9 => b"java/lang/ArithmeticException",
-        10 => b"java/lang/NullPointerException",
-        11 => b"java/lang/IndexOutOfBoundsException",
-        12 => b"java/lang/ArrayIndexOutOfBoundsException",
-        13 => b"java/lang/NegativeArraySizeException",
-        14 => b"java/lang/IllegalArgumentException",
-        15 => b"java/lang/IllegalMonitorStateException",
-        16 => b"java/lang/IllegalThreadStateException",
-        17 => b"java/lang/IllegalStateException",
-        18 => b"java/lang/InterruptedException",
-        19 => b"java/lang/VirtualMachineError",
-        20 => b"java/lang/StackOverflowError",
-        21 => b"java/lang/OutOfMemoryError",
-        22 => b"java/lang/AssertionError",
-        _ => &[],
-    }
-}
-
 /// The name of a class of the program.
 fn name_of_class<'a>(program: &'a Program, class: u32) -> &'a [u8]
     ensures { result.now ≡ class_name program.now class }
 {
-    if class < 32 {
+    if class < FIRST_USER_CLASS {
         return built_in_name(class);
     }
     match program.class(class) {

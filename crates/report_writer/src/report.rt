@@ -61,7 +61,7 @@ fn put_end_line(out: &mut Vec<u8>, program: &Program, end: &End) -> Result<(), N
 }
 
 /// Adds a word and a number on a line.
-fn put_counted(out: &mut Vec<u8>, word: &[u8], n: u64) -> Result<(), NoMemory>
+pub fn put_counted(out: &mut Vec<u8>, word: &[u8], n: u64) -> Result<(), NoMemory>
     ensures { OnOk result (out.new.items ≡ out.old.items ++ counted word.now n) }
 {
     put(out, word)?;

@@ -21,7 +21,7 @@ use Rattle.schedule_log.proofs.Lawful.{chain_of, lawful_of}
 
 -- ---- the clocks of a thread have one list of maximal intervals
 
--- of two runs of numbers from one start the shorter goes on with the number behind it
+-- of two runs of numbers from one start the shorter goes on with the number after it
 numbers_apart : (start n m : ℕ) (xs ys : List ℕ) → n < m → numbers start n ++ xs ≡ numbers start m ++ ys → (rest : List ℕ) × (xs ≡ (start + n) ∷ rest)
 numbers_apart start n zero xs ys lt e = absurd (omega arith)
 numbers_apart start zero (suc m) xs ys lt e = (numbers (start + 1) m ++ ys, e ∙ ap (λ (k : ℕ). k ∷ (numbers (start + 1) m ++ ys)) (let same : start ≡ start + 0 = omega arith in same))

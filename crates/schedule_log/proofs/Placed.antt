@@ -86,7 +86,7 @@ part_put_other t i (j ∷ is) ne =
           ])
     ]
 
--- a thread whose intervals all begin below x has none in what begins behind x
+-- a thread whose intervals all begin below x has none in what begins after x
 pub part_none : (t x from : ℕ) (is : List Interval) → ApartFrom from is → x ≤ from → AllByRecursion (λ j. j.thread ≡ t → j.first < x) is → part t is ≡ []
 part_none t x from [] s le all = refl
 part_none t x from (j ∷ is) s le all =
@@ -106,7 +106,7 @@ part_put_same t from i (j ∷ is) s e all =
           ])
     ]
 
--- ---- where each interval begins right behind the one before it
+-- ---- where each interval begins right after the one before it
 
 pub contiguous_from_test : (from : ℕ) (is : List Interval) → ApartFrom from is → is_contiguous_from from is ≡ true → ContiguousFrom from is
 contiguous_from_test from [] s e = tt
@@ -122,7 +122,7 @@ pub apart_from_contiguous : (from : ℕ) (is : List Interval) → ContiguousFrom
 apart_from_contiguous from [] f = tt
 apart_from_contiguous from (i ∷ is) f = (omega (arith, f.0), f.1, apart_from_contiguous (i.last + 1) is f.2)
 
--- the part of a thread behind a first interval
+-- the part of a thread after a first interval
 maximal_part_rest : (u : ℕ) (i : Interval) (is : List Interval) (from : ℕ) → MaximalFrom u from (part u (i ∷ is)) → (low : ℕ) × MaximalFrom u low (part u is)
 maximal_part_rest u i is from s =
     elim (same_or_other i.thread u) [
@@ -181,7 +181,7 @@ pub last_bound : (from : ℕ) (is : List Interval) → ContiguousFrom from is �
 last_bound from [] f = tt
 last_bound from (i ∷ is) f = (let r = reach_grows (i.last + 1) is f.2 in omega (arith, r), last_bound (i.last + 1) is f.2)
 
--- ---- what lies behind
+-- ---- what lies after
 
 pub none_behind : (from first last : ℕ) (is : List Interval) → ApartFrom from is → last < from → list_any (shares first last) is ≡ false
 none_behind from first last [] s lt = refl

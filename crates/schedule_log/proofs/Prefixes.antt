@@ -211,7 +211,7 @@ unfolding nothing_at
 nothing_empty x [] y e = refl
 nothing_empty x (b ∷ bytes) y e = absurd cc
 
--- where the whole log is read, its end mark lies behind any proper front
+-- where the whole log is read, its end mark lies after any proper front
 end_short : (budget : ℕ) (placed : List Interval) (front back : List ℕ) (l : PlainLog) → 0 < length back
     → (end_at budget (clock_count placed) (front ++ back) >>= λ end. nothing_at (let log : PlainLog = record { budget = budget; intervals = placed; end = end.0 } in log) end.1) ≡ Ok l
     → (end_at budget (clock_count placed) front >>= λ end. nothing_at (let log : PlainLog = record { budget = budget; intervals = placed; end = end.0 } in log) end.1) ≡ refuse Short []

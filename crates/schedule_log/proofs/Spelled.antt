@@ -90,7 +90,7 @@ any_put p i (j ∷ is) a b =
       | inr ge ↦ let f = or_false (p j) (list_any p is) b in rw (le-ltb _ _ ge) (rw f.0 (any_put p i is a f.1))
     ]
 
--- what lies behind a clock shares nothing with what ends there
+-- what lies after a clock shares nothing with what ends there
 pub free_behind : (t from first last : ℕ) (is : List Interval) → ApartFrom from is → last < from → list_any (shares first last) (lower t is) ≡ false
 free_behind t from first last [] s lt = refl
 free_behind t from first last (j ∷ is) s lt =
@@ -265,7 +265,7 @@ some_thread : (is : List Interval) → 1 ≤ next_of is → 1 ≤ thread_count i
 some_thread [] h = absurd (omega arith)
 some_thread (i ∷ is) h = omega arith
 
--- a spelling with any bytes behind it
+-- a spelling with any bytes after it
 pub log_then : (l : PlainLog) (rest : List ℕ) → IsLawful l → log_at (spelling l ++ rest) ≡ nothing_at l rest
 unfolding log_at head_at tail_at gapless_at
 log_then l rest lawful =

@@ -123,7 +123,7 @@ placed_below bytes r b c x fits e0 e1 e2 e3 =
       low = all_weaken (IsPlaced b.0 (0 + c.0)) (λ i. i.last < 1048576) x.0 (λ i h. let k = h.0 in omega (arith, k, t1.2)) t3.all;
     }
 
--- behind any number of intervals the reach is at least 1 where it is so before them
+-- after any number of intervals the reach is at least 1 where it is so before them
 at_least : (from : ℕ) (is : List Interval) → 1 ≤ from → 1 ≤ reach from is
 at_least from [] le = le
 at_least from (i ∷ is) le = at_least (i.last + 1) is (omega arith)

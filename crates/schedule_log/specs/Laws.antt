@@ -25,7 +25,7 @@ LongerIsTrailing = (log : PlainLog) (b : ℕ) (more : List ℕ) → IsLawful log
 abbrev pub PrefixIsShort : Type 0
 PrefixIsShort = (log : PlainLog) (size : ℕ) → IsLawful log → size < length (spelling log) → read_log (take size (spelling log)) ≡ Err (At Short size)
 
--- intervals in order of first tile n exactly where each begins right behind the one before it, the first at 0, where
+-- intervals in order of first tile n exactly where each begins right after the one before it, the first at 0, where
 -- those in a row are of two threads, and where the last one ends before n
 abbrev pub TilesInOrder : Type 0
 TilesInOrder = (n : ℕ) (intervals : List Interval) → (IsInOrder intervals × Tiles n intervals) ↔ (ContiguousFrom 0 intervals × NeighboursDiffer intervals × (next_of intervals ≡ n))

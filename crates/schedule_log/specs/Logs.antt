@@ -1,6 +1,7 @@
 -- What a log is, and which logs are lawful.
 use Rattle.std.specs.Prelude.{◌≡◌, ℕ, ◌+◌, ◌-◌, ◌<◌, ◌≤◌, nat_lt, if◌then◌else◌, List, [], ◌∷◌, All, replicate}
 use Rattle.std.specs.List.{flat_map}
+use Rattle.vm_model.specs.declared.limits.TheConstants.{MOST_EVENTS, MOST_THREADS}
 use Rattle.vm_model.specs.declared.ends.EndKind.{EndKind}
 use Rattle.vm_model.specs.declared.ends.EndKind.TheVariants as ends
 use Rattle.schedule_log.specs.declared.interval.Interval.{Interval}
@@ -18,8 +19,8 @@ events log = clock_count log.intervals
 
 pub record IsLawful (log : PlainLog) : Type 0 where
   pub budget_low : 1 ≤ log.budget
-  pub budget_high : log.budget ≤ 1048576
-  pub threads : All (λ i. i.thread < 64) log.intervals
+  pub budget_high : log.budget ≤ MOST_EVENTS
+  pub threads : All (λ i. i.thread < MOST_THREADS) log.intervals
   pub in_order : IsInOrder log.intervals
   pub tiles : Tiles (events log) log.intervals
   pub some_event : 1 ≤ events log

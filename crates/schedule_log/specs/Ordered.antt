@@ -2,7 +2,7 @@
 use Rattle.std.specs.Prelude.{◌≡◌, ◌≢◌, ℕ, ◌+◌, ◌≤◌, Bool, true, ◌&&◌, ◌==◌, List, [], ◌∷◌}
 use Rattle.schedule_log.specs.declared.interval.Interval.{Interval}
 
--- the number behind the last interval, and from where there is none
+-- the number after the last interval, and from where there is none
 abbrev pub reach : ℕ → List Interval → ℕ
 reach from [] = from
 reach from (i ∷ rest) = reach (i.last + 1) rest
@@ -15,7 +15,7 @@ abbrev pub ApartFrom : ℕ → List Interval → Type 0
 ApartFrom from [] = Unit {0}
 ApartFrom from (i ∷ rest) = (from ≤ i.first) × (i.first ≤ i.last) × ApartFrom (i.last + 1) rest
 
--- each begins right behind the one before it, the first at from
+-- each begins right after the one before it, the first at from
 abbrev pub ContiguousFrom : ℕ → List Interval → Type 0
 ContiguousFrom from [] = Unit {0}
 ContiguousFrom from (i ∷ rest) = (i.first ≡ from) × (i.first ≤ i.last) × ContiguousFrom (i.last + 1) rest

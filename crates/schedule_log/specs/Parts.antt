@@ -1,6 +1,7 @@
 -- The foldings of a run's threads, and the log that they make together.
 use Rattle.std.specs.Prelude.{◌≡◌, ℕ, ◌+◌, ◌<◌, ◌≤◌, ◌==◌, if◌then◌else◌, List, [], ◌∷◌, length, All, Some, slice_get}
 use Rattle.std.specs.List.{flat_map}
+use Rattle.vm_model.specs.declared.limits.TheConstants.{MOST_EVENTS, MOST_THREADS}
 use Rattle.vm_model.specs.declared.ends.EndKind.{EndKind}
 use Rattle.vm_model.specs.declared.ends.EndKind.TheVariants as ends
 use Rattle.schedule_log.specs.Intervals.{clocks}
@@ -32,8 +33,8 @@ pub record AreParts (threads : List ℕ) (parts : List PlainFolding) : Type 0 wh
 
 -- the threads of a run that a log can keep
 pub record IsLoggable (budget : ℕ) (threads : List ℕ) (end : EndKind) : Type 0 where
-  pub budget_high : budget ≤ 1048576
-  pub threads_low : All (λ t. t < 64) threads
+  pub budget_high : budget ≤ MOST_EVENTS
+  pub threads_low : All (λ t. t < MOST_THREADS) threads
   pub some_event : 1 ≤ length threads
   pub within_budget : length threads ≤ budget
   pub spent : end ≡ ends.Spent → length threads ≡ budget

@@ -2,6 +2,7 @@
 -- from its place on.
 use Rattle.std.specs.Prelude.{ℕ, zero, suc, ◌+◌, ◌-◌, ◌*◌, max, Bool, not, ◌&&◌, ◌||◌, List, [], ◌∷◌, length, Result, Ok, Err, nat_lt, nat_le, ◌==◌, if◌then◌else◌}
 use Rattle.std.specs.List.{list_any}
+use Rattle.vm_model.specs.declared.limits.TheConstants.{MOST_EVENTS, MOST_THREADS}
 use Rattle.vm_model.specs.declared.ends.EndKind.{EndKind}
 use Rattle.vm_model.specs.declared.ends.EndKind.TheVariants as ends
 use Rattle.schedule_log.specs.declared.interval.Interval.{Interval}
@@ -35,7 +36,7 @@ head_at bytes = do
   d ← byte_at Magic 0x4C c
   byte_at Version 1 d
 
--- A byte below 128 is the last one. Behind another one come at most so many more, and their value is not 0.
+-- A byte below 128 is the last one. After another one come at most so many more, and their value is not 0.
 unfoldable pub groups_at : ℕ → List ℕ → Result (ℕ × List ℕ) LogKind
 groups_at more [] = Err Short
 groups_at more (b ∷ rest) = if nat_lt b 128 then Ok (b, rest) else if more == 0 then Err Limit else (groups_at (more - 1) rest >>= λ g. if g.0 == 0 then Err LongSpelling else Ok (b - 128 + 128 * g.0, g.1))
@@ -55,12 +56,12 @@ number_at low high bytes = in_range low high bytes (groups_at 4 bytes)
 
 -- ---- intervals
 
--- an interval of a thread, where next is the number behind the thread's last one, and 0 for its first one
+-- an interval of a thread, where next is the number after the thread's last one, and 0 for its first one
 unfoldable pub interval_at : ℕ → ℕ → ℕ → List Interval → List ℕ → Result (Interval × List ℕ) Refusal
 interval_at budget thread next placed bytes =
-    number_at 0 1048576 bytes >>= λ gap.
+    number_at 0 MOST_EVENTS bytes >>= λ gap.
     if nat_lt 0 next && gap.0 == 0 then refuse NotMaximal bytes else
-    (number_at 0 1048576 gap.1 >>= λ more.
+    (number_at 0 MOST_EVENTS gap.1 >>= λ more.
     if nat_le budget (next + gap.0 + more.0) then refuse Limit gap.1 else
     if list_any (shares (next + gap.0) (next + gap.0 + more.0)) placed then refuse Overlap bytes else
     Ok (record { thread = thread; first = next + gap.0; last = next + gap.0 + more.0 }, more.1))
@@ -74,7 +75,7 @@ intervals_at (suc count) budget thread next placed bytes =
 -- a thread, with at least so many intervals
 unfoldable pub thread_at : ℕ → ℕ → ℕ → List Interval → List ℕ → Result (List Interval × List ℕ) Refusal
 thread_at budget thread least placed bytes = do
-  count ← number_at least 1048576 bytes
+  count ← number_at least MOST_EVENTS bytes
   intervals_at count.0 budget thread 0 placed count.1
 
 -- the threads from one on, the last of which has an interval
@@ -83,7 +84,7 @@ threads_at zero budget thread placed bytes = Ok (placed, bytes)
 threads_at (suc more) budget thread placed bytes =
     thread_at budget thread (if more == 0 then 1 else 0) placed bytes >>= λ p. threads_at more budget (thread + 1) p.0 p.1
 
--- ---- behind the intervals
+-- ---- after the intervals
 
 abbrev pub greatest_last : List Interval → ℕ
 greatest_last [] = 0
@@ -122,8 +123,8 @@ tail_at budget placed bytes = do
 unfoldable pub log_at : List ℕ → Result PlainLog Refusal
 log_at bytes = do
   rest ← head_at bytes
-  budget ← number_at 1 1048576 rest
-  count ← number_at 1 64 budget.1
+  budget ← number_at 1 MOST_EVENTS rest
+  count ← number_at 1 MOST_THREADS budget.1
   placed ← threads_at count.0 budget.0 0 [] count.1
   tail_at budget.0 placed.0 placed.1
 

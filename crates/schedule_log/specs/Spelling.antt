@@ -20,7 +20,7 @@ leb128 n = groups n n
 abbrev pub part : ℕ → List Interval → List Interval
 part thread intervals = filter (λ (i : Interval). i.thread == thread) intervals
 
--- per interval how far it begins behind the end of the one before it, and its last minus its first
+-- per interval how far it begins after the end of the one before it, and its last minus its first
 abbrev pub pairs : ℕ → List Interval → List ℕ
 pairs from [] = []
 pairs from (i ∷ rest) = leb128 (i.first - from) ++ (leb128 (i.last - i.first) ++ pairs (i.last + 1) rest)

@@ -19,9 +19,9 @@ pub enum LogKind {
     LongSpelling,
     /// An interval shares a clock with one before it in the file: at the interval's first number.
     Overlap,
-    /// A clock below the greatest `last` is in no interval: behind the last thread, where the end mark should be.
+    /// A clock below the greatest `last` is in no interval: after the last thread, where the end mark should be.
     Gap,
-    /// An interval begins right behind one of the same thread: at its first number.
+    /// An interval begins right after one of the same thread: at its first number.
     NotMaximal,
     /// A number has more than five bytes or is out of its range, or an interval reaches the budget: at the first byte of
     /// the number, in the last case of the interval's second number.

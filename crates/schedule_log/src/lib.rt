@@ -20,6 +20,3 @@ pub use interval::Interval;
 pub use log::Log;
 pub use reading::decode;
 pub use writing::encode;
-
-#[cfg(test)]
-mod tests;

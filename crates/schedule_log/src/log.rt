@@ -10,7 +10,7 @@ use vm_model::{EndKind, NoMemory};
 /// A recorded run, as far as it depends on the interleaving: for how many events there was leave, which thread made
 /// each event, and how the run ended.
 ///
-/// Each log is lawful: the budget is from 1 to 1,048,576; the intervals, of threads below 64, tile the clocks below the
+/// Each log is lawful: the budget is from 1 to `MOST_EVENTS`; the intervals, of threads below 64, tile the clocks below the
 /// number of events, which is from 1 to the budget; and the end is `Spent` only where it is the budget.
 #[derive(Debug, Drop)]
 pub struct Log {
@@ -47,7 +47,7 @@ impl Log {
         }
     }
 
-    /// The log of a run: `budget` is the number of events that were allowed, from 1 to 1,048,576, and each part has the
+    /// The log of a run: `budget` is the number of events that were allowed, from 1 to `MOST_EVENTS`, and each part has the
     /// intervals of one thread. The parts are given up, also where memory is missing.
     pub fn of(
         alloc: Global,
@@ -69,7 +69,7 @@ impl Log {
         })
     }
 
-    /// For how many events there was leave, from 1 to 1,048,576.
+    /// For how many events there was leave, from 1 to `MOST_EVENTS`.
     pub fn budget(&self) -> u64
         ensures { result ≡ self.now.budget }
     {
@@ -83,7 +83,7 @@ impl Log {
         self.end
     }
 
-    /// The intervals in order of `first`. The first begins at 0, and each other right behind the one before it.
+    /// The intervals in order of `first`. The first begins at 0, and each other right after the one before it.
     pub fn intervals(&self) -> &[Interval]
         ensures items { result.now ≡ self.now.intervals }
         ensures lawful { IsLawful self.now }

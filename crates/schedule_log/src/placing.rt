@@ -2,6 +2,7 @@
 
 ghost use Rattle.std.specs.Prelude.{◌≡◌, ◌+◌, ◌<◌, ◌≤◌, length, take, slice_index_or, IfOk};
 ghost use Rattle.std.specs.List.{AllByRecursion, list_any};
+ghost use Rattle.vm_model.specs.declared.limits.TheConstants.{MOST_EVENTS};
 ghost use Rattle.schedule_log.specs.declared.interval.Interval.{Interval};
 ghost use Rattle.schedule_log.specs.Intervals.{clock_count, shares};
 ghost use Rattle.schedule_log.specs.Ordered.{ApartFrom, ContiguousFrom};
@@ -14,7 +15,7 @@ use vm_model::NoMemory;
 /// How many clocks there are in intervals that follow directly on each other.
 pub fn events_of(intervals: &[Interval]) -> u64
     requires contiguous { ContiguousFrom 0 intervals.now }
-    requires low { AllByRecursion (λ (i : Interval). i.last < 1048576) intervals.now }
+    requires low { AllByRecursion (λ (i : Interval). i.last < MOST_EVENTS) intervals.now }
     ensures { result ≡ clock_count intervals.now }
 {
     let count = intervals.len();

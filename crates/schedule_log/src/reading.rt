@@ -14,9 +14,7 @@ use crate::interval::Interval;
 use crate::log::Log;
 use crate::placing::{events_of, is_taken, merged, place_of};
 use std::alloc::Global;
-use vm_model::EndKind;
-
-const MOST: u64 = 1_048_576;
+use vm_model::{EndKind, MOST_EVENTS, MOST_THREADS};
 
 fn refusal(kind: LogKind, bytes: &[u8]) -> ReadError
     ensures { result ≡ ReadError.Refused (record { kind = kind; left = length bytes.now }) }
@@ -106,7 +104,7 @@ fn interval_of<'a>(
     at: usize,
     bytes: &'a [u8],
 ) -> Result<(Interval, usize, &'a [u8]), ReadError>
-    requires low { next ≤ 1048576 }
+    requires low { next ≤ MOST_EVENTS }
     requires apart { ApartFrom 0 placed.now }
     requires within { at ≤ length placed.now }
     requires before { AllByRecursion (λ (j : Interval). j.last < next) (take at placed.now) }
@@ -114,11 +112,11 @@ fn interval_of<'a>(
     ensures bound { IfOk result (λ x. (next ≤ x.0.first) × (x.0.first ≤ x.0.last) × (x.0.last < budget)) }
     ensures place { IfOk result (λ x. (x.1 ≤ length placed.now) × AllByRecursion (λ (j : Interval). j.last < x.0.first) (take x.1 placed.now)) }
 {
-    let (gap, rest) = number_of(0, MOST, bytes)?;
+    let (gap, rest) = number_of(0, MOST_EVENTS, bytes)?;
     if 0 < next && gap == 0 {
         return Err(refusal(LogKind::NotMaximal, bytes));
     }
-    let (more, after) = number_of(0, MOST, rest)?;
+    let (more, after) = number_of(0, MOST_EVENTS, rest)?;
     let first = next + gap;
     let last = first + more;
     if budget <= last {
@@ -147,7 +145,7 @@ fn intervals_of<'a>(
     placed: &[Interval],
     bytes: &'a [u8],
 ) -> Result<(Vec<Interval>, &'a [u8]), ReadError>
-    requires low { budget ≤ 1048576 }
+    requires low { budget ≤ MOST_EVENTS }
     requires apart { ApartFrom 0 placed.now }
     ensures read { Gives (λ x. (put_all placed.now x.0.items, x.1.now)) result (intervals_at count budget thread 0 placed.now bytes.now) }
     ensures rising { IfOk result (λ x. ApartFrom 0 x.0.items) }
@@ -175,11 +173,11 @@ fn thread_of<'a>(
     placed: &[Interval],
     bytes: &'a [u8],
 ) -> Result<(Vec<Interval>, &'a [u8]), ReadError>
-    requires low { budget ≤ 1048576 }
+    requires low { budget ≤ MOST_EVENTS }
     requires apart { ApartFrom 0 placed.now }
     ensures { Gives (λ x. (x.0.items, x.1.now)) result (thread_at budget thread least placed.now bytes.now) }
 {
-    let (count, rest) = number_of(least, MOST, bytes)?;
+    let (count, rest) = number_of(least, MOST_EVENTS, bytes)?;
     let (more, rest) = intervals_of(alloc, count, budget, thread, placed, rest)?;
     Ok((merged(alloc, placed, &more)?, rest))
 }
@@ -190,7 +188,7 @@ fn threads_of(
     budget: u64,
     bytes: &[u8],
 ) -> Result<(Vec<Interval>, &[u8]), ReadError>
-    requires { budget ≤ 1048576 }
+    requires { budget ≤ MOST_EVENTS }
     ensures { Gives (λ x. (x.0.items, x.1.now)) result (threads_at count budget 0 [] bytes.now) }
 {
     let mut placed = Vec::new(alloc);
@@ -204,9 +202,9 @@ fn threads_of(
     Ok((placed, rest))
 }
 
-/// Whether each interval begins right behind the one before it.
+/// Whether each interval begins right after the one before it.
 fn is_contiguous(placed: &[Interval]) -> bool
-    requires { AllByRecursion (λ (i : Interval). i.last < 1048576) placed.now }
+    requires { AllByRecursion (λ (i : Interval). i.last < MOST_EVENTS) placed.now }
     ensures { result ≡ is_contiguous_from 0 placed.now }
 {
     let mut next = 0;
@@ -222,7 +220,7 @@ fn is_contiguous(placed: &[Interval]) -> bool
 #[tactic(auto, unfolding(crate::specs::Reading::gapless_at))]
 fn gapless_of<'a>(placed: &[Interval], bytes: &'a [u8]) -> Result<&'a [u8], ReadError>
     requires apart { ApartFrom 0 placed.now }
-    requires low { AllByRecursion (λ (i : Interval). i.last < 1048576) placed.now }
+    requires low { AllByRecursion (λ (i : Interval). i.last < MOST_EVENTS) placed.now }
     ensures read { Gives (λ x. x.now) result (gapless_at placed.now bytes.now) }
     ensures contiguous { IfOk result (λ _. ContiguousFrom 0 placed.now) }
 {
@@ -249,7 +247,7 @@ fn end_of(budget: u64, events: u64, bytes: &[u8]) -> Result<(EndKind, &[u8]), Re
 #[tactic(auto, unfolding(crate::specs::Reading::tail_at, crate::specs::Reading::nothing_at))]
 fn tail_of(budget: u64, placed: &[Interval], bytes: &[u8]) -> Result<EndKind, ReadError>
     requires apart { ApartFrom 0 placed.now }
-    requires low { AllByRecursion (λ (i : Interval). i.last < 1048576) placed.now }
+    requires low { AllByRecursion (λ (i : Interval). i.last < MOST_EVENTS) placed.now }
     ensures { Gives (λ end. record { budget = budget; intervals = placed.now; end = end }) result (tail_at budget placed.now bytes.now) }
 {
     let rest = gapless_of(placed, bytes)?;
@@ -265,8 +263,8 @@ fn log_of(alloc: Global, bytes: &[u8]) -> Result<(u64, Vec<Interval>, EndKind), 
     ensures { Gives (λ x. record { budget = x.0; intervals = x.1.items; end = x.2 }) result (log_at bytes.now) }
 {
     let rest = head_of(bytes)?;
-    let (budget, rest) = number_of(1, MOST, rest)?;
-    let (count, rest) = number_of(1, 64, rest)?;
+    let (budget, rest) = number_of(1, MOST_EVENTS, rest)?;
+    let (count, rest) = number_of(1, MOST_THREADS as u64, rest)?;
     let (placed, rest) = threads_of(alloc, count as u32, budget, rest)?;
     let end = tail_of(budget, &placed, rest)?;
     Ok((budget, placed, end))

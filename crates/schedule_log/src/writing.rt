@@ -1,5 +1,6 @@
 ghost use Rattle.std.specs.Prelude.{◌≡◌, ◌+◌, ◌<◌, ◌≤◌, ◌++◌, length, OnOk, IfOk};
 ghost use Rattle.std.specs.List.{AllByRecursion};
+ghost use Rattle.vm_model.specs.declared.limits.TheConstants.{MOST_EVENTS, MOST_THREADS};
 ghost use Rattle.schedule_log.specs.declared.interval.Interval.{Interval};
 ghost use Rattle.schedule_log.specs.Spelling.{leb128, part, pairs, thread_count, end_mark, spelling};
 ghost use Rattle.schedule_log.specs.Ordered.{ContiguousFrom, next_of};
@@ -22,7 +23,7 @@ fn put_number(out: &mut Vec<u8>, n: u64) -> Result<(), NoMemory>
 }
 
 fn threads_of(intervals: &[Interval]) -> u32
-    requires { AllByRecursion (λ (i : Interval). i.thread < 64) intervals.now }
+    requires { AllByRecursion (λ (i : Interval). i.thread < MOST_THREADS) intervals.now }
     ensures { result ≡ thread_count intervals.now }
 {
     let mut count = 0;
@@ -48,7 +49,7 @@ fn count_of(intervals: &[Interval], thread: u32) -> usize
 
 fn put_pairs(out: &mut Vec<u8>, intervals: &[Interval], thread: u32) -> Result<(), NoMemory>
     requires contiguous { ContiguousFrom 0 intervals.now }
-    requires within { next_of intervals.now ≤ 1048576 }
+    requires within { next_of intervals.now ≤ MOST_EVENTS }
     ensures { OnOk result (out.new.items ≡ out.old.items ++ pairs 0 (part thread intervals.now)) }
 {
     let mut next = 0;

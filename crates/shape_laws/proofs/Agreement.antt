@@ -26,7 +26,7 @@ use Rattle.shape_laws.proofs.Moving.{Moves}
 
 -- ---- operations
 
--- what an outcome of the reply leaves fits the shape behind the instruction
+-- what an outcome of the reply leaves fits the shape after the instruction
 abbrev pub Done : PlainProgram → Frame → Shape → ℕ → Outcome → Type 0
 Done p f s n Stays = Unit {0}
 Done p f s n Ends = Unit {0}
@@ -134,7 +134,7 @@ asks_wait p f s l fit = (refl, wait_replies p f s l fit)
 
 -- ---- calls
 
--- the arguments of a call are of the kinds that the method takes, and the frame fits the shape behind it with what is given back
+-- the arguments of a call are of the kinds that the method takes, and the frame fits the shape after it with what is given back
 pub record CallFits (p : PlainProgram) (f : Frame) (s : Shape) (callee : ℕ) : Type 0 where
   pub method : PlainMethod
   pub is : method_at p callee ≡ Some method
@@ -168,7 +168,7 @@ pub branches : (p : PlainProgram) (b : Bool) (f : Frame) (to : ℕ) (s : Shape) 
 branches p true f to s stack kinds fit more = inl (record { method = refl; lock = refl; place_is = refl; fit = record { stack = more; locals = fit.locals } })
 branches p false f to s stack kinds fit more = inr (goes p f s stack kinds fit more)
 
--- the frame behind the reply, where so many operands are gone
+-- the frame after the reply, where so many operands are gone
 pub replied : (p : PlainProgram) (f : Frame) (s : Shape) (n : ℕ) (brought : Option Value) (rest : List Value) (kinds : List Kind) → FitsShape p s f → drop n f.stack ≡ rest → FitsKinds p (with_given brought rest) kinds
     → FitsShape p (with_stack s kinds) (with_reply n brought f)
 replied p f s n brought rest kinds fit e more = record { stack = subst (λ (st : List Value). FitsKinds p (with_given brought st) kinds) (sym e) more; locals = fit.locals }

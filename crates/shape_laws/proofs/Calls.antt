@@ -54,12 +54,12 @@ reverse_twice : (ks : List Kind) → reverse (reverse ks) ≡ ks
 reverse_twice [] = refl
 reverse_twice (k ∷ ks) = ap reverse (reverse-append (k ∷ []) ks) ∙ reverse-append (reverse ks) (k ∷ []) ∙ ap (λ (xs : List Kind). k ∷ xs) (reverse_twice ks)
 
--- the value behind those of the first kinds
-value_behind : (p : PlainProgram) (vs rest : List Value) (ks : List Kind) (k : Kind) → FitsKinds p vs (ks ++ k ∷ []) → (v : Value) × (slice_get (vs ++ rest) (length ks) ≡ Some v) × (is_of p v k ≡ true)
-value_behind p [] rest [] k f = absurd f
-value_behind p [] rest (l ∷ ks) k f = absurd f
-value_behind p (v ∷ vs) rest [] k f = (v, refl, f.0)
-value_behind p (v ∷ vs) rest (l ∷ ks) k f = value_behind p vs rest ks k f.1
+-- the value after those of the first kinds
+value_after : (p : PlainProgram) (vs rest : List Value) (ks : List Kind) (k : Kind) → FitsKinds p vs (ks ++ k ∷ []) → (v : Value) × (slice_get (vs ++ rest) (length ks) ≡ Some v) × (is_of p v k ≡ true)
+value_after p [] rest [] k f = absurd f
+value_after p [] rest (l ∷ ks) k f = absurd f
+value_after p (v ∷ vs) rest [] k f = (v, refl, f.0)
+value_after p (v ∷ vs) rest (l ∷ ks) k f = value_after p vs rest ks k f.1
 
 -- ---- a call that finds its operands
 
@@ -136,7 +136,7 @@ on_agrees p f s callee (Some m) is linked fit =
   where
     found : m.is_static ≡ false → (rest : List Value) (krest : List Kind) → Taken p f.stack (reverse m.params ++ kind.Ref m.class ∷ []) rest krest → Agrees p f (Next (with_stack s (with_kind m.gives krest))) (calls_on callee (Some m) f.stack)
     found own rest krest taken =
-        let receiver = value_behind p taken.values rest (reverse m.params) (kind.Ref m.class) taken.fit in
+        let receiver = value_after p taken.values rest (reverse m.params) (kind.Ref m.class) taken.fit in
         let there : slice_get f.stack (length m.params) ≡ Some receiver.0 = ap (λ (n : ℕ). slice_get f.stack n) (sym (length-reverse m.params)) ∙ ap (λ (vs : List Value). slice_get vs (length (reverse m.params))) taken.all ∙ receiver.1 in
         let long : length taken.values ≡ arity_of m = taken.long ∙ length-append (reverse m.params) (kind.Ref m.class ∷ []) ∙ ap (λ (n : ℕ). n + 1) (length-reverse m.params) ∙ sym (own_arity m own) in
         let kinds : reverse (reverse m.params ++ kind.Ref m.class ∷ []) ≡ parameters m = reverse-append (reverse m.params) (kind.Ref m.class ∷ []) ∙ ap (λ (ks : List Kind). kind.Ref m.class ∷ ks) (reverse_twice m.params) ∙ sym (own_parameters m own) in

@@ -149,7 +149,7 @@ module _ (p : PlainProgram) where
   length_early (pos n) go each = each n
   length_early (negsuc n) go each = tt
 
-  -- the frame behind an instruction that writes a local
+  -- the frame after an instruction that writes a local
   store_early : (f : Frame) (i : ℕ) (v : Value) (rest : List Value) → IsEarlyFrame p f → IsEarly p v → AreEarly p rest → IsEarlyFrame p (store f i v rest)
   store_early f i v rest early is more = record { stack = more; locals = all_set (IsEarly p) f.locals i v early.locals is; lock = early.lock }
 

@@ -73,7 +73,7 @@ early_at p (v ∷ vs) (suc i) all = early_at p vs i all.1
 
 -- ---- frames
 
--- the frame behind an instruction that leaves this stack
+-- the frame after an instruction that leaves this stack
 pub next_early : (p : PlainProgram) (f : Frame) (stack : List Value) → IsEarlyFrame p f → AreEarly p stack → IsEarlyFrame p (next f stack)
 next_early p f stack early more = record { stack = more; locals = early.locals; lock = early.lock }
 
@@ -89,7 +89,7 @@ pub first_frame_early : (p : PlainProgram) (m : ℕ) (arguments : List Value) (l
 first_frame_early p m arguments l early kept =
     record { stack = tt; locals = all_both (IsEarly p) arguments (replicate (locals_at (method_at p m) - length arguments) value.Null) early (nulls p (locals_at (method_at p m) - length arguments)); lock = kept }
 
--- the callee's frame, and the caller's behind the call
+-- the callee's frame, and the caller's after the call
 pub callee_early : (p : PlainProgram) (m : ℕ) (l : Option Lock) (f : Frame) → IsEarlyFrame p f → IsEarlyLock p l → IsEarlyFrame p (first_frame p m (reverse (take (arity_at (method_at p m)) f.stack)) l)
 callee_early p m l f early kept =
     first_frame_early p m (reverse (take (arity_at (method_at p m)) f.stack)) l

@@ -33,7 +33,7 @@ abbrev IsEarlyNext : PlainProgram → Option LocalState → Type 0
 IsEarlyNext p None = Unit {0}
 IsEarlyNext p (Some l) = IsEarlyState p l
 
--- the state behind the local step of an action
+-- the state after the local step of an action
 moved_early : (p : PlainProgram) (f : Frame) (below : List Frame) (a : Action) → IsEarlyAction p a → IsEarlyFrame p f → AllByRecursion (IsEarlyFrame p) below → IsEarlyNext p (moved p a f below)
 moved_early p f below (Goes g) is early all = ((is, all), tt)
 moved_early p f below (Calls m None) is early all = by (nat_lt (length below) 255)
@@ -52,7 +52,7 @@ moved_early p f below (Asks o n) is early all = tt
 moved_early p f below (Fails kind) is early all = tt
 moved_early p f below Undefined is early all = tt
 
--- the state behind a local step
+-- the state after a local step
 step_early : (p : PlainProgram) (table : Table) (l : LocalState) → IsWellLinked p → NamesWhatIsThere p → IsShapeTable p table → FitsTable p table l → IsEarlyState p l → IsEarlyNext p (local_step p l)
 step_early p table Ended linked names shapes fit early = tt
 step_early p table (Running [] phase) linked names shapes fit early = tt

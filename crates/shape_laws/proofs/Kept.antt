@@ -40,7 +40,7 @@ FitsMaybe p table (Some l) = FitsTable p table l
 call_fits : (p : PlainProgram) (table : Table) (f : Frame) (below : List Frame) (callee : ℕ) (l : Option Lock) → CallKeeps p table f callee → AllAwait p table f.method below → FitsTable p table (Running (call_frames p callee l f below) Plain)
 call_fits p table f below callee l call wait = (call.begins l, (call.awaits, wait))
 
--- the frames behind a return
+-- the frames after a return
 return_fits : (p : PlainProgram) (table : Table) (f g : Frame) (below : List Frame) (given : Option Value) → GivenFits p given (given_kind (method_at p f.method)) → AllAwait p table f.method (g ∷ below) → FitsTable p table (Running (return_frames given g below) Plain)
 return_fits p table f g below given fits wait = (wait.0 given fits, wait.1)
 

@@ -7,7 +7,8 @@ use Rattle.std.proofs.lemmas.Bool.Decides.{nat_tests}
 use Rattle.std.proofs.lemmas.Option.{slice_get_past}
 use Rattle.vm_model.specs.Program.{PlainClass}
 use Rattle.machine_model.specs.Declarations.{Declarations, class_at}
-use Rattle.machine_model.specs.Kinds.{built_in_supers, super_of, user_super, listed_super, supers_within, chain, extends, is_runnable_class, is_runnable, is_thread, is_thread_class}
+use Rattle.built_in_classes.specs.Classes.{built_in_supers, listed_super}
+use Rattle.machine_model.specs.Kinds.{super_of, user_super, supers_within, chain, extends, is_runnable_class, is_runnable, is_thread, is_thread_class}
 use Rattle.shape_laws.proofs.Tests.{same, same_self, either, on_left, on_right, both, joined, true_below, at_most}
 
 abbrev Has : List ℕ → ℕ → Type 0

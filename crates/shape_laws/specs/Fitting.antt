@@ -4,6 +4,7 @@ use Rattle.vm_model.specs.declared.value.Value.{Value}
 use Rattle.vm_model.specs.declared.value.Value.TheVariants as value
 use Rattle.vm_model.specs.declared.value.Kind.{Kind}
 use Rattle.vm_model.specs.Program.{PlainProgram}
+use Rattle.built_in_classes.specs.declared.numbers.TheConstants.{PRINT_STREAM, RUNNABLE, STRING}
 use Rattle.machine_model.specs.Declarations.{declarations_of}
 use Rattle.machine_model.specs.Kinds.{fits}
 use Rattle.machine_model.specs.Frames.{Frame}
@@ -11,7 +12,7 @@ use Rattle.machine_model.specs.Shapes.{Shape, Table, shape_at}
 
 -- there are objects of this class: texts and the stream are values of their own, and Runnable is implemented only
 abbrev pub has_objects : ℕ → Bool
-has_objects class = not (class == 2 || class == 3 || class == 4)
+has_objects class = not (class == RUNNABLE || class == STRING || class == PRINT_STREAM)
 
 -- a value that a run may make
 abbrev pub is_made : Value → Bool

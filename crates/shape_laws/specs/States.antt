@@ -39,7 +39,7 @@ pub record FindsOperands (p : PlainProgram) (f : Frame) : Type 0 where
   pub fits_it : FitsShape p shape f
   pub taken : flow p f.method instruction shape ≢ Refused
 
--- a frame that stands at a call fits the table behind it, whatever its callee gives back
+-- a frame that stands at a call fits the table after it, whatever its callee gives back
 abbrev pub Awaits : PlainProgram → Table → Option Kind → Frame → Type 0
 Awaits p table gives f = (given : Option Value) → GivenFits p given gives → FitsFrame p table (next f (with_given given f.stack))
 

@@ -11,7 +11,7 @@ use Rattle.shape_verifier.specs.declared.fault.ShapeKind.TheVariants as fault
 use Rattle.shape_verifier.specs.declared.fault.Refusal.{Refusal}
 use Rattle.shape_verifier.specs.declared.shape.Reached.{Reached}
 use Rattle.shape_verifier.specs.Merging.{merged_shape, takes}
-use Rattle.shape_verifier.specs.Judging.{bounded, is_behind, refusal, stack_limit}
+use Rattle.shape_verifier.specs.Judging.{bounded, is_past, refusal, stack_limit}
 use Rattle.shape_verifier.specs.Passing.{PassState, ◌>>=◌, at_place, begun, judged_at, least_new, looked_at, merged_at, merged_into, reached, spread, turned, turned_at}
 use Rattle.shape_verifier.specs.Kept.{IsBelow, IsBelowAt, IsBelowTable}
 use Rattle.shape_laws.proofs.Tests.{at_most}
@@ -115,10 +115,10 @@ module _ (p : PlainProgram) (table : Table) (n : ℕ) where
 
 module _ (p : PlainProgram) (table : Table) (n : ℕ) (m : PlainMethod) (at : method_at p n ≡ Some m) (closed : HasShapes p table n (Some m)) where
   -- a place that has a shape is one of the method's instructions
-  pub not_behind : (place : ℕ) (t : Shape) → shape_at table n place ≡ Some t → is_behind m place ≡ false
-  not_behind place t is = by (is_behind m place) refl
+  pub not_behind : (place : ℕ) (t : Shape) → shape_at table n place ≡ Some t → is_past m place ≡ false
+  not_behind place t is = by (is_past m place) refl
     where
-      by : (b : Bool) → is_behind m place ≡ b → b ≡ false
+      by : (b : Bool) → is_past m place ≡ b → b ≡ false
       by true behind =
           absurd (subst (λ (o : Option Instr). FollowsAt p table n place t o)
           (ap (λ (o : Option PlainMethod). code_at o place) at ∙ slice_get_past m.code place (at_most (length m.code) place behind)) (closed.1 place t is).1)
@@ -127,7 +127,7 @@ module _ (p : PlainProgram) (table : Table) (n : ℕ) (m : PlainMethod) (at : me
   -- a shape that the table's takes is within the limits
   record Bounds (place : ℕ) (s : Shape) : Type 0 where
     depth : nat_lt (stack_limit m) (length s.stack) ≡ false
-    there : is_behind m place ≡ false
+    there : is_past m place ≡ false
 
   bounds : (place : ℕ) (s : Shape) (o : Option Shape) → shape_at table n place ≡ o → TakesAt p s o → Bounds place s
   bounds place s None is here = absurd here
@@ -150,15 +150,15 @@ module _ (p : PlainProgram) (table : Table) (n : ℕ) (m : PlainMethod) (at : me
   bounded_below : (place : ℕ) (why : ShapeKind) (f : Flow) → Follows p table n place f → JudgedBelow place (bounded m place why f)
   bounded_below place why (Next s) h =
       let b = bounds (place + 1) s (shape_at table n (place + 1)) refl h in
-      going_below place s (nat_lt (stack_limit m) (length s.stack)) (is_behind m (place + 1)) (Next s) b.depth b.there h
+      going_below place s (nat_lt (stack_limit m) (length s.stack)) (is_past m (place + 1)) (Next s) b.depth b.there h
   bounded_below place why (Jump to s) h =
       let b = bounds to s (shape_at table n to) refl h in
-      going_below place s (nat_lt (stack_limit m) (length s.stack)) (is_behind m to) (Jump to s) b.depth b.there h
+      going_below place s (nat_lt (stack_limit m) (length s.stack)) (is_past m to) (Jump to s) b.depth b.there h
   bounded_below place why (Branch to s) h =
       let b = bounds (place + 1) s (shape_at table n (place + 1)) refl h.0 in
       let b' = bounds to s (shape_at table n to) refl h.1 in
-      going_below place s (nat_lt (stack_limit m) (length s.stack)) (is_behind m (place + 1) || is_behind m to) (Branch to s) b.depth
-      (neither (is_behind m (place + 1)) (is_behind m to) b.there b'.there) h
+      going_below place s (nat_lt (stack_limit m) (length s.stack)) (is_past m (place + 1) || is_past m to) (Branch to s) b.depth
+      (neither (is_past m (place + 1)) (is_past m to) b.there b'.there) h
     where
       neither : (a b : Bool) → a ≡ false → b ≡ false → (a || b) ≡ false
       neither true b e e' = e

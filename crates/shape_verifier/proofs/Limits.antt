@@ -9,7 +9,7 @@ use Rattle.machine_model.specs.Shapes.{Shape, Flow, Next, Jump, Branch, Leaves, 
 use Rattle.shape_verifier.specs.declared.fault.ShapeKind.{ShapeKind}
 use Rattle.shape_verifier.specs.declared.fault.ShapeKind.TheVariants as fault
 use Rattle.shape_verifier.specs.declared.shape.Reached.{Reached}
-use Rattle.shape_verifier.specs.Judging.{bounded, is_behind, judged, refusal, stack_limit}
+use Rattle.shape_verifier.specs.Judging.{bounded, is_past, judged, refusal, stack_limit}
 use Rattle.shape_verifier.specs.Merging.{merged_kind, merged_kinds, merged_locals, merged_over, merged_shape, with_top}
 use Rattle.shape_verifier.specs.Passing.{PassState, reached}
 use Rattle.shape_verifier.specs.Turning.{AreWithin, HasLocals, HaveLocals, HaveLocalsOf, IsWithin}
@@ -22,9 +22,9 @@ use Rattle.shape_verifier.proofs.Widths.{HasWidth, flow_keeps}
 
 -- the shape that goes on is within the limits, and control goes on within the code
 abbrev pub GoesWithin : PlainMethod → ℕ → Flow → Type 0
-GoesWithin m place (Next s) = IsWithinLimits m s × (is_behind m (place + 1) ≡ false)
-GoesWithin m place (Jump to s) = IsWithinLimits m s × (is_behind m to ≡ false)
-GoesWithin m place (Branch to s) = IsWithinLimits m s × (is_behind m (place + 1) ≡ false) × (is_behind m to ≡ false)
+GoesWithin m place (Next s) = IsWithinLimits m s × (is_past m (place + 1) ≡ false)
+GoesWithin m place (Jump to s) = IsWithinLimits m s × (is_past m to ≡ false)
+GoesWithin m place (Branch to s) = IsWithinLimits m s × (is_past m (place + 1) ≡ false) × (is_past m to ≡ false)
 GoesWithin m place Leaves = Unit {0}
 GoesWithin m place Refused = ⊥
 
@@ -44,29 +44,29 @@ within_so : (m : PlainMethod) (s : Shape) → nat_lt (stack_limit m) (length s.s
 within_so m s e wide = record { stack = few m s e; locals = wide }
 
 bounded_so : (m : PlainMethod) (place : ℕ) (why : ShapeKind) (g f : Flow) → HasWidth (locals_of m) g → bounded m place why g ≡ Ok f → (g ≡ f) × GoesWithin m place g
-bounded_so m place why (Next s) f wide e = by (nat_lt (stack_limit m) (length s.stack)) (is_behind m (place + 1)) refl refl e
+bounded_so m place why (Next s) f wide e = by (nat_lt (stack_limit m) (length s.stack)) (is_past m (place + 1)) refl refl e
   where
-    by : (deep behind : Bool) → nat_lt (stack_limit m) (length s.stack) ≡ deep → is_behind m (place + 1) ≡ behind
+    by : (deep behind : Bool) → nat_lt (stack_limit m) (length s.stack) ≡ deep → is_past m (place + 1) ≡ behind
         → ◌≡◌ {A = Result Flow ShapeKind} (if deep then Err fault.Limit else if behind then Err fault.FallsOff else Ok (Next s)) (Ok f) → (Next s ≡ f) × GoesWithin m place (Next s)
     by true behind is is' e' = cc
     by false true is is' e' = cc
     by false false is is' e' = let same : Next s ≡ f = cc in (same, (within_so m s is wide, is'))
-bounded_so m place why (Jump to s) f wide e = by (nat_lt (stack_limit m) (length s.stack)) (is_behind m to) refl refl e
+bounded_so m place why (Jump to s) f wide e = by (nat_lt (stack_limit m) (length s.stack)) (is_past m to) refl refl e
   where
-    by : (deep behind : Bool) → nat_lt (stack_limit m) (length s.stack) ≡ deep → is_behind m to ≡ behind
+    by : (deep behind : Bool) → nat_lt (stack_limit m) (length s.stack) ≡ deep → is_past m to ≡ behind
         → ◌≡◌ {A = Result Flow ShapeKind} (if deep then Err fault.Limit else if behind then Err fault.FallsOff else Ok (Jump to s)) (Ok f) → (Jump to s ≡ f) × GoesWithin m place (Jump to s)
     by true behind is is' e' = cc
     by false true is is' e' = cc
     by false false is is' e' = let same : Jump to s ≡ f = cc in (same, (within_so m s is wide, is'))
-bounded_so m place why (Branch to s) f wide e = by (nat_lt (stack_limit m) (length s.stack)) (is_behind m (place + 1) || is_behind m to) refl refl e
+bounded_so m place why (Branch to s) f wide e = by (nat_lt (stack_limit m) (length s.stack)) (is_past m (place + 1) || is_past m to) refl refl e
   where
-    by : (deep behind : Bool) → nat_lt (stack_limit m) (length s.stack) ≡ deep → (is_behind m (place + 1) || is_behind m to) ≡ behind
+    by : (deep behind : Bool) → nat_lt (stack_limit m) (length s.stack) ≡ deep → (is_past m (place + 1) || is_past m to) ≡ behind
         → ◌≡◌ {A = Result Flow ShapeKind} (if deep then Err fault.Limit else if behind then Err fault.FallsOff else Ok (Branch to s)) (Ok f) → (Branch to s ≡ f) × GoesWithin m place (Branch to s)
     by true behind is is' e' = cc
     by false true is is' e' = cc
     by false false is is' e' =
         let same : Branch to s ≡ f = cc in
-        let both = neither (is_behind m (place + 1)) (is_behind m to) is' in
+        let both = neither (is_past m (place + 1)) (is_past m to) is' in
         (same, (within_so m s is wide, both.0, both.1))
 bounded_so m place why Leaves f wide e = let same : Leaves ≡ f = cc in (same, tt)
 bounded_so m place why Refused f wide e = cc

@@ -41,7 +41,7 @@ wider (suc n) (suc k) d None e few h = absurd (false≢true h)
 wider (suc n) (suc k) d (Some x) e few h =
     ⊎_elim (λ a. on_left (x == e) _ a) (λ a. on_right (x == e) _ (wider n k d (super_of d x) e (omega arith) a)) (either (x == e) (is_among (supers_within n d (super_of d x)) e) h)
 
--- what is behind a class in a chain is in the chain of this class
+-- what is after a class in a chain is in the chain of this class
 front : (n : ℕ) (d : Declarations) (x e : ℕ) → n ≤ 6 → is_among (supers_within n d (Some x)) e ≡ true → is_among (chain d x) e ≡ true
 unfolding chain
 front n d x e few h = wider n 6 d (Some x) e few h

@@ -9,7 +9,8 @@ use Rattle.vm_model.specs.declared.value.Kind.{Kind}
 use Rattle.vm_model.specs.declared.value.Kind.TheVariants as kind
 use Rattle.vm_model.specs.Program.{PlainClass, PlainProgram}
 use Rattle.machine_model.specs.Declarations.{Declarations, class_at, declarations_of}
-use Rattle.machine_model.specs.Kinds.{built_in_supers, chain, listed_super, super_of, supers_within, user_super}
+use Rattle.built_in_classes.specs.Classes.{built_in_supers, listed_super}
+use Rattle.machine_model.specs.Kinds.{chain, super_of, supers_within, user_super}
 use Rattle.machine_model.specs.Shapes.{is_subsumed}
 use Rattle.shape_verifier.specs.Merging.{first_common, is_among, merged_kind, nearest_super}
 use Rattle.shape_laws.proofs.Tests.{both, either, on_left, on_right, same, true_below}

@@ -39,7 +39,7 @@ taken p n m old marked o place s all so is = by (subst (λ (x : Option (ℕ × S
           turns = λ answer e. turned_so p n m old marked place s answer h.0 h.1 e;
         }
 
--- the state behind the turn
+-- the state after the turn
 pub turn_keeps : (p : PlainProgram) (n : ℕ) (m : PlainMethod) (old marked next : PassState) (place : ℕ) (s : Shape) → Taken p n m old marked place s → gone_on p n m marked place s ≡ Ok next → Keeps p m marked next
 turn_keeps p n m old marked next place s t e = gone_keeps p n m marked next place s t.wide t.within e
 

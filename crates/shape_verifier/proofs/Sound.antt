@@ -13,7 +13,7 @@ use Rattle.shape_verifier.specs.declared.fault.ShapeKind.{ShapeKind}
 use Rattle.shape_verifier.specs.declared.fault.ShapeKind.TheVariants as fault
 use Rattle.shape_verifier.specs.declared.fault.Refusal.{Refusal}
 use Rattle.shape_verifier.specs.declared.shape.Reached.{Reached}
-use Rattle.shape_verifier.specs.Judging.{bounded, is_behind, judged, refusal, stack_limit}
+use Rattle.shape_verifier.specs.Judging.{bounded, is_past, judged, refusal, stack_limit}
 use Rattle.shape_verifier.specs.Passing.{PassState, EndsWith, HasTable, ◌>>=◌, at_place, begun, judged_at, least_new, looked_at, method_within, pass_within, passed_on, reached, spread, turned, turned_at}
 use Rattle.shape_verifier.proofs.Taking.{takes_itself}
 use Rattle.shape_verifier.proofs.Stops.{first_width}
@@ -43,7 +43,7 @@ module _ (m : PlainMethod) where
       few limit depth e = grind (arith, nat_tests)
 
   -- the second test says that there is an instruction
-  is_there : (place : ℕ) → is_behind m place ≡ false → place < length m.code
+  is_there : (place : ℕ) → is_past m place ≡ false → place < length m.code
   is_there place e = grind (arith, nat_tests)
 
   neither : (a b : Bool) → (a || b) ≡ false → (a ≡ false) × (b ≡ false)
@@ -53,12 +53,12 @@ module _ (m : PlainMethod) where
   -- a flow that is let through stays within the limits
   bounded_gives : (place : ℕ) (why : ShapeKind) (f : Flow) → HasWidth (locals_of m) f → JudgedSo m place f (bounded m place why f)
   bounded_gives place why (Next s) wide =
-      going_gives place (Next s) (nat_lt (stack_limit m) (length s.stack)) (is_behind m (place + 1)) (λ deep behind. (limits_of s deep wide, is_there (place + 1) behind))
+      going_gives place (Next s) (nat_lt (stack_limit m) (length s.stack)) (is_past m (place + 1)) (λ deep behind. (limits_of s deep wide, is_there (place + 1) behind))
   bounded_gives place why (Jump to s) wide =
-      going_gives place (Jump to s) (nat_lt (stack_limit m) (length s.stack)) (is_behind m to) (λ deep behind. (limits_of s deep wide, is_there to behind))
+      going_gives place (Jump to s) (nat_lt (stack_limit m) (length s.stack)) (is_past m to) (λ deep behind. (limits_of s deep wide, is_there to behind))
   bounded_gives place why (Branch to s) wide =
-      going_gives place (Branch to s) (nat_lt (stack_limit m) (length s.stack)) (is_behind m (place + 1) || is_behind m to)
-      (λ deep behind. let parts = neither (is_behind m (place + 1)) (is_behind m to) behind in (limits_of s deep wide, (is_there (place + 1) parts.0, is_there to parts.1)))
+      going_gives place (Branch to s) (nat_lt (stack_limit m) (length s.stack)) (is_past m (place + 1) || is_past m to)
+      (λ deep behind. let parts = neither (is_past m (place + 1)) (is_past m to) behind in (limits_of s deep wide, (is_there (place + 1) parts.0, is_there to parts.1)))
   bounded_gives place why Leaves wide = (refl, tt)
   bounded_gives place why Refused wide = tt
 

@@ -7,7 +7,7 @@ use Rattle.vm_model.specs.declared.value.Kind.{Kind}
 use Rattle.vm_model.specs.Program.{PlainMethod, PlainProgram, locals_of, method_at}
 use Rattle.machine_model.specs.Shapes.{Shape, Table, LocalsTake, TakesAt, HasShapes, first_shape, parameters, shape_at}
 use Rattle.shape_verifier.specs.declared.fault.Refusal.{Refusal}
-use Rattle.shape_verifier.specs.Judging.{is_behind}
+use Rattle.shape_verifier.specs.Judging.{is_past}
 use Rattle.shape_verifier.specs.Passing.{PassState, EndsWith, HasTable, begun, method_within, pass_within, passed_on, turned}
 use Rattle.shape_verifier.specs.Kept.{IsBelowTable}
 use Rattle.shape_laws.proofs.Tests.{true_below}
@@ -30,7 +30,7 @@ too_wide m t wide same is =
     let long : length (first_shape m).locals ≡ length (parameters m) + (locals_of m - length (parameters m)) = first_width m in
     omega arith
 
-empty_behind : (m : PlainMethod) → (length m.code == 0) ≡ true → is_behind m 0 ≡ true
+empty_behind : (m : PlainMethod) → (length m.code == 0) ≡ true → is_past m 0 ≡ true
 empty_behind m empty = grind (arith, nat_tests)
 
 module _ (p : PlainProgram) (table : Table) (n : ℕ) (m : PlainMethod) (at : method_at p n ≡ Some m) (closed : HasShapes p table n (Some m)) where

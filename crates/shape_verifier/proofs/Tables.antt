@@ -72,7 +72,7 @@ module _ (p : PlainProgram) where
   closed_at : (table : Table) (n : ℕ) (shapes : List (Option Shape)) → slice_get table n ≡ Some shapes → IsEntry n shapes → HasShapes p table n (method_at p n)
   closed_at table n shapes is h = shapes_same p n h.0 table (λ place. h.1.1 place ∙ sym (ap (λ (o : Option (List (Option Shape))). shape_in o place) is)) (method_at p n) h.1.0
 
-  -- there is nothing to show behind the last method
+  -- there is nothing to show after the last method
   closed_behind : (table : Table) (n : ℕ) → length p.methods ≤ n → HasShapes p table n (method_at p n)
   closed_behind table n behind = subst (λ (o : Option PlainMethod). HasShapes p table n o) (sym (slice_get_past p.methods n behind)) tt
 

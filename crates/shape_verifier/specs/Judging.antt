@@ -1,5 +1,6 @@
 -- What is wrong at an instruction that meets a shape, and where control goes on if nothing is.
 use Rattle.std.specs.Prelude.{ℕ, ◌+◌, Bool, true, false, ◌||◌, if◌then◌else◌, nat_le, nat_lt, List, ◌∷◌, length, Option, Some, None, slice_get, unwrap_or, Result, Ok, Err}
+use Rattle.vm_model.specs.declared.limits.TheConstants.{MOST_OPERANDS}
 use Rattle.vm_model.specs.declared.value.Kind.{Kind}
 use Rattle.vm_model.specs.declared.instr.Instr.{Instr}
 use Rattle.vm_model.specs.declared.instr.Instr.TheVariants as instr
@@ -130,10 +131,10 @@ refusal p i s =
 -- ---- where control goes on
 
 abbrev pub stack_limit : PlainMethod → ℕ
-stack_limit m = unwrap_or m.max_stack 1024
+stack_limit m = unwrap_or m.max_stack MOST_OPERANDS
 
-abbrev pub is_behind : PlainMethod → ℕ → Bool
-is_behind m place = nat_le (length m.code) place
+abbrev pub is_past : PlainMethod → ℕ → Bool
+is_past m place = nat_le (length m.code) place
 
 -- a stack that is too deep is Limit, and a follower that is no instruction of the method FallsOff
 abbrev pub going : PlainMethod → Shape → Bool → Flow → Result Flow ShapeKind
@@ -143,9 +144,9 @@ going m s falls_off f =
     else Ok f
 
 abbrev pub bounded : PlainMethod → ℕ → ShapeKind → Flow → Result Flow ShapeKind
-bounded m place why (Next s) = going m s (is_behind m (place + 1)) (Next s)
-bounded m place why (Jump to s) = going m s (is_behind m to) (Jump to s)
-bounded m place why (Branch to s) = going m s (is_behind m (place + 1) || is_behind m to) (Branch to s)
+bounded m place why (Next s) = going m s (is_past m (place + 1)) (Next s)
+bounded m place why (Jump to s) = going m s (is_past m to) (Jump to s)
+bounded m place why (Branch to s) = going m s (is_past m (place + 1) || is_past m to) (Branch to s)
 bounded m place why Leaves = Ok Leaves
 bounded m place why Refused = Err why
 

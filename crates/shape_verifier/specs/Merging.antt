@@ -4,6 +4,7 @@ use Rattle.std.specs.List.{list_any}
 use Rattle.vm_model.specs.declared.value.Kind.{Kind}
 use Rattle.vm_model.specs.declared.value.Kind.TheVariants as kind
 use Rattle.vm_model.specs.Program.{PlainProgram}
+use Rattle.built_in_classes.specs.declared.numbers.TheConstants.{OBJECT}
 use Rattle.machine_model.specs.Declarations.{Declarations, declarations_of}
 use Rattle.machine_model.specs.Kinds.{chain}
 use Rattle.machine_model.specs.Shapes.{Shape, is_subsumed}
@@ -26,7 +27,7 @@ nearest_super d c e = first_common (chain d c) (chain d e)
 
 -- an array and an object of this class are both objects, where the class extends Object
 abbrev pub merged_array : Declarations → ℕ → Option Kind
-merged_array d class = if is_among (chain d class) 0 then Some (kind.Ref 0) else None
+merged_array d class = if is_among (chain d class) OBJECT then Some (kind.Ref OBJECT) else None
 
 -- the first kind, merged into the second; none where they have no common kind
 abbrev pub merged_kind : PlainProgram → Kind → Kind → Option Kind
@@ -70,7 +71,7 @@ merged_kinds p [] (l ∷ ls) = None
 merged_kinds p (k ∷ ks) [] = None
 merged_kinds p (k ∷ ks) (l ∷ ls) = with_top (merged_kind p k l) (merged_kinds p ks ls)
 
--- locals that have no common kind are not set behind
+-- locals that have no common kind are not set after
 abbrev pub merged_local : PlainProgram → Option Kind → Option Kind → Option Kind
 merged_local p None l = None
 merged_local p (Some k) None = None

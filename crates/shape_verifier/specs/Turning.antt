@@ -87,7 +87,7 @@ CopiedSo (Ok true) old new answer = answer ≡ Ok new
 CopiedSo (Ok false) old new answer = (answer ≡ Ok new) × (new ≡ old)
 CopiedSo (Err e) old new answer = StopsSo e answer
 
--- the state behind a turn, in which nothing is new before this instruction
+-- the state after a turn, in which nothing is new before this instruction
 abbrev pub SpreadSo : Result ℕ PassError → PassState → Result PassState Refusal → Type 0
 SpreadSo (Ok from) new answer = (answer ≡ Ok new) × NoneNewBelow from new
 SpreadSo (Err e) new answer = StopsSo e answer

@@ -12,6 +12,7 @@ ghost use Rattle.shape_verifier.specs.Answers.{flow_of, kinds_taken, on_taken};
 use crate::kinds::is_assignable;
 use crate::shape::Shape;
 use crate::step::{Step, push, take, take_and_push, take_two};
+use built_in_classes::{RUNNABLE, THREAD};
 use vm_model::{Kind, Method, NoMemory, Program};
 
 // ---- statics and fields
@@ -49,7 +50,7 @@ pub fn put_static(shape: &mut Shape, program: &Program, slot: u32) -> Step
 fn is_thread(program: &Program, class: u32) -> bool
     ensures { result ≡ is_thread_class (declarations_of program.now) class }
 {
-    if class == 1 {
+    if class == THREAD {
         return true;
     }
     match program.class(class) {
@@ -78,7 +79,7 @@ fn field_kind(program: &Program, class: u32, place: u32) -> Option<Kind>
         return written_field(program, class, place as usize);
     }
     if place == 0 {
-        return Some(Kind::Ref(2));
+        return Some(Kind::Ref(RUNNABLE));
     }
     written_field(program, class, place as usize - 1)
 }

@@ -16,7 +16,7 @@ pub enum ShapeKind {
     Kind,
     /// A local is read that isn't set, or that the method doesn't have.
     Unset,
-    /// Control goes on behind the last instruction.
+    /// Control goes on after the last instruction.
     FallsOff,
     /// The operand stack is deeper than the method's limit, or the method has no such local.
     Limit,

@@ -19,8 +19,9 @@ use crate::step::{
     load_reference, pop, pop_two, print_int, push, store_int, store_item, store_reference, swap,
     take, take_two, throw,
 };
+use built_in_classes::{OBJECT, PRINT_STREAM, RUNNABLE, STRING, THREAD};
 use std::alloc::{AllocError, AllocFailed, Global};
-use vm_model::{Instr, Kind, Method, NoMemory, Program};
+use vm_model::{Instr, Kind, MOST_OPERANDS, Method, NoMemory, Program};
 
 /// Where control goes on from an instruction.
 #[derive(Clone, Copy, Debug, PartialEq, Eq)]
@@ -78,7 +79,7 @@ fn flow(
     match instr {
         Instr::Nop => Ok(Step::Next),
         Instr::Push(_) => push(shape, Kind::Int),
-        Instr::PushText(_) => push(shape, Kind::Ref(3)),
+        Instr::PushText(_) => push(shape, Kind::Ref(STRING)),
         Instr::PushNull => push(shape, Kind::Null),
         Instr::Iload(local) => load_int(shape, local),
         Instr::Istore(local) => Ok(store_int(shape, local)),
@@ -122,7 +123,7 @@ fn flow(
         Instr::Ifnonnull(to) => Ok(branch_on_reference(shape, to)),
         Instr::Goto(to) => Ok(Step::Jump(to)),
         Instr::ArrayLength => array_to_int(shape),
-        Instr::Out => push(shape, Kind::Ref(4)),
+        Instr::Out => push(shape, Kind::Ref(PRINT_STREAM)),
         Instr::GetStatic(slot) => get_static(shape, program, slot),
         Instr::PutStatic(slot) => Ok(put_static(shape, program, slot)),
         Instr::GetField { class, place } => get_field(shape, program, class, place),
@@ -131,27 +132,32 @@ fn flow(
         Instr::Iastore => Ok(store_item(shape)),
         Instr::New(class) => push(shape, Kind::Ref(class)),
         Instr::NewArray => int_to(shape, Kind::Arr),
-        Instr::MonitorEnter => Ok(take(shape, program, Kind::Ref(0))),
-        Instr::MonitorExit => Ok(take(shape, program, Kind::Ref(0))),
+        Instr::MonitorEnter => Ok(take(shape, program, Kind::Ref(OBJECT))),
+        Instr::MonitorExit => Ok(take(shape, program, Kind::Ref(OBJECT))),
         Instr::Athrow => Ok(throw(shape, program)),
         Instr::InvokeStatic(callee) => call_static(shape, program, callee),
         Instr::InvokeVirtual(callee) => call_on(shape, program, callee),
         Instr::InvokeSpecial(callee) => call_on(shape, program, callee),
         Instr::RunOf(class) => Ok(take(shape, program, Kind::Ref(class))),
-        Instr::Wait => Ok(take(shape, program, Kind::Ref(0))),
-        Instr::Notify => Ok(take(shape, program, Kind::Ref(0))),
-        Instr::NotifyAll => Ok(take(shape, program, Kind::Ref(0))),
-        Instr::Start => Ok(take(shape, program, Kind::Ref(1))),
-        Instr::Join => Ok(take(shape, program, Kind::Ref(1))),
+        Instr::Wait => Ok(take(shape, program, Kind::Ref(OBJECT))),
+        Instr::Notify => Ok(take(shape, program, Kind::Ref(OBJECT))),
+        Instr::NotifyAll => Ok(take(shape, program, Kind::Ref(OBJECT))),
+        Instr::Start => Ok(take(shape, program, Kind::Ref(THREAD))),
+        Instr::Join => Ok(take(shape, program, Kind::Ref(THREAD))),
         Instr::Yield => Ok(Step::Next),
         Instr::Init { class, text: true } => {
-            Ok(take_two(shape, program, Kind::Ref(class), Kind::Ref(3)))
+            Ok(take_two(shape, program, Kind::Ref(class), Kind::Ref(STRING)))
         }
         Instr::Init { class, text: false } => Ok(take(shape, program, Kind::Ref(class))),
-        Instr::InitRunnable => Ok(take_two(shape, program, Kind::Ref(1), Kind::Ref(2))),
-        Instr::Println => Ok(take(shape, program, Kind::Ref(4))),
+        Instr::InitRunnable => Ok(take_two(shape, program, Kind::Ref(THREAD), Kind::Ref(RUNNABLE))),
+        Instr::Println => Ok(take(shape, program, Kind::Ref(PRINT_STREAM))),
         Instr::PrintInt { .. } => Ok(print_int(shape, program)),
-        Instr::PrintText { .. } => Ok(take_two(shape, program, Kind::Ref(4), Kind::Ref(3))),
+        Instr::PrintText { .. } => Ok(take_two(
+            shape,
+            program,
+            Kind::Ref(PRINT_STREAM),
+            Kind::Ref(STRING),
+        )),
         Instr::Return => Ok(return_nothing(shape, program, method.gives)),
         Instr::Ireturn => Ok(return_int(shape, program, method.gives)),
         Instr::Areturn => Ok(return_reference(shape, program, method.gives)),
@@ -305,7 +311,7 @@ fn refusal(shape: &Shape, program: &Program, instr: Instr) -> ShapeKind
 pub fn stack_limit(method: &Method) -> u32
     ensures { result ≡ stack_limit_of method.now }
 {
-    method.max_stack.unwrap_or(1024)
+    method.max_stack.unwrap_or(MOST_OPERANDS)
 }
 
 /// A stack that is too deep is Limit, and a follower that is no instruction of the method FallsOff.
@@ -338,14 +344,14 @@ fn bounded(
     ensures { BoundedSo result shape.now (model_bounded method.now place why (flow_of step shape.now)) }
 {
     let len = method.code.len();
-    let next_is_behind = len <= place as usize + 1;
+    let next_is_past = len <= place as usize + 1;
     match step {
-        Step::Next => going(shape, method, next_is_behind, Onward::Next),
+        Step::Next => going(shape, method, next_is_past, Onward::Next),
         Step::Jump(to) => going(shape, method, len <= to as usize, Onward::Jump(to)),
         Step::Branch(to) => going(
             shape,
             method,
-            next_is_behind || len <= to as usize,
+            next_is_past || len <= to as usize,
             Onward::Branch(to),
         ),
         Step::Leaves => Ok(Onward::Leaves),
@@ -353,7 +359,7 @@ fn bounded(
     }
 }
 
-/// What the instruction at a place of this method, of this number, does to a shape: the shape becomes the one behind it. After
+/// What the instruction at a place of this method, of this number, does to a shape: the shape becomes the one after it. After
 /// an error the shape is unknown.
 pub fn judge(
     program: &Program,

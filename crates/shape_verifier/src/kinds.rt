@@ -2,56 +2,27 @@
 
 ghost use Rattle.std.specs.Prelude.{◌≡◌, Some, slice_get};
 ghost use Rattle.machine_model.specs.Declarations.{declarations_of};
-ghost use Rattle.machine_model.specs.Kinds.{built_in_supers, listed_super, super_of as model_super_of, supers_within, chain, is_runnable_class as model_is_runnable, extends as model_extends, is_assignable as model_is_assignable};
+ghost use Rattle.machine_model.specs.Kinds.{super_of as model_super_of, supers_within, chain, is_runnable_class as model_is_runnable, extends as model_extends, is_assignable as model_is_assignable};
 ghost use Rattle.shape_verifier.specs.Merging.{is_among};
 
-use vm_model::{Kind, Program};
-
-/// The super of each built-in class, by number, from Object to the last throwable (Java SE 8 API, `java.lang`).
-const BUILT_IN_SUPERS: [Option<u32>; 23] = [
-    None,
-    Some(0),
-    Some(0),
-    None,
-    None,
-    Some(0),
-    Some(5),
-    Some(6),
-    Some(5),
-    Some(7),
-    Some(7),
-    Some(7),
-    Some(11),
-    Some(7),
-    Some(7),
-    Some(7),
-    Some(14),
-    Some(7),
-    Some(6),
-    Some(8),
-    Some(19),
-    Some(19),
-    Some(8),
-];
-
-fn built_in_super(class: u32) -> Option<u32>
-    ensures { result ≡ listed_super (slice_get built_in_supers class) }
-{
-    match BUILT_IN_SUPERS.get(class as usize) {
-        Some(found) => *found,
-        None => None,
-    }
-}
+use built_in_classes::{LONGEST_CHAIN, OBJECT, RUNNABLE, THREAD, built_in_super};
+use vm_model::{FIRST_USER_CLASS, Kind, Program};
 
 /// The class that this class extends, if it extends one.
 pub fn super_of(program: &Program, class: u32) -> Option<u32>
     ensures { result ≡ model_super_of (declarations_of program.now) class }
 {
-    if class < 32 {
+    if class < FIRST_USER_CLASS {
         return built_in_super(class);
     }
     match program.class(class) {
-        Some(found) => { if found.is_thread { Some(1) } else { Some(0) } }
+        Some(found) => {
+            if found.is_thread {
+                Some(THREAD)
+            } else {
+                Some(OBJECT)
+            }
+        }
         None => None,
     }
 }
@@ -73,19 +44,19 @@ fn reaches(program: &Program, most: u8, class: u32, wanted: u32) -> bool
     }
 }
 
-/// Whether `wanted` is among the class and its supers: no chain is longer than six.
+/// Whether `wanted` is among the class and its supers: no chain is longer.
 #[tactic(auto, unfolding(machine_model::specs::Kinds::chain))]
 pub fn is_among_supers(program: &Program, class: u32, wanted: u32) -> bool
     ensures { result ≡ is_among (chain (declarations_of program.now) class) wanted }
 {
-    reaches(program, 6, class, wanted)
+    reaches(program, LONGEST_CHAIN, class, wanted)
 }
 
 /// Whether an object of this class may stand for Runnable.
 fn is_runnable(program: &Program, class: u32) -> bool
     ensures { result ≡ model_is_runnable (declarations_of program.now) class }
 {
-    if class == 1 {
+    if class == THREAD {
         return true;
     }
     match program.class(class) {
@@ -98,7 +69,7 @@ fn is_runnable(program: &Program, class: u32) -> bool
 fn extends(program: &Program, class: u32, wanted: u32) -> bool
     ensures { result ≡ model_extends (declarations_of program.now) class wanted }
 {
-    is_among_supers(program, class, wanted) || wanted == 2 && is_runnable(program, class)
+    is_among_supers(program, class, wanted) || wanted == RUNNABLE && is_runnable(program, class)
 }
 
 /// Whether a value of the first kind may stand where the second is wanted (JVMS SE 8 §4.10.1.2).
@@ -130,7 +101,7 @@ pub fn is_assignable(program: &Program, from: Kind, to: Kind) -> bool
         Kind::Arr => match to {
             Kind::Int => false,
             Kind::Null => false,
-            Kind::Ref(wanted) => wanted == 0,
+            Kind::Ref(wanted) => wanted == OBJECT,
             Kind::Arr => true,
             Kind::Args => false,
         },

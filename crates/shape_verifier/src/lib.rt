@@ -11,8 +11,6 @@ mod merging;
 mod passing;
 mod shape;
 mod step;
-#[cfg(test)]
-mod tests;
 mod verifying;
 
 pub use fault::{ShapeFault, ShapeKind};

@@ -9,6 +9,7 @@ ghost use Rattle.shape_verifier.specs.InPlace.{MergedSo, MergedKindsSo};
 use crate::fault::ShapeKind;
 use crate::kinds::{is_among_supers, super_of};
 use crate::shape::Shape;
+use built_in_classes::OBJECT;
 use vm_model::{Kind, Program};
 
 /// Whether merging the first kind into the second leaves the second as it is.
@@ -19,7 +20,7 @@ pub fn is_subsumed(program: &Program, new: Kind, old: Kind) -> bool
         (Kind::Int, Kind::Int) => true,
         (Kind::Null, Kind::Null | Kind::Ref(_) | Kind::Arr) => true,
         (Kind::Ref(class), Kind::Ref(wanted)) => is_among_supers(program, class, wanted),
-        (Kind::Arr, Kind::Ref(class)) => class == 0,
+        (Kind::Arr, Kind::Ref(class)) => class == OBJECT,
         (Kind::Arr, Kind::Arr) => true,
         (Kind::Args, Kind::Args) => true,
         _ => false,
@@ -100,7 +101,7 @@ fn merged_array(program: &Program, class: u32) -> Option<Kind>
     ensures { result ≡ model_merged_array (declarations_of program.now) class }
 {
     if is_among_supers(program, class, 0) {
-        Some(Kind::Ref(0))
+        Some(Kind::Ref(OBJECT))
     } else {
         None
     }

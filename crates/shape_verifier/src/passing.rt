@@ -2,6 +2,7 @@
 //! (JVMS SE 8 §4.10.2.2).
 
 ghost use Rattle.std.specs.Prelude.{◌≡◌, ◌+◌, ◌-◌, ◌<◌, ◌≤◌, ◌^◌, ◌++◌, [], ◌∷◌, true, false, length, map, replicate, IfOk, IfErr, Ok, Err, Some, None, slice_get};
+ghost use Rattle.vm_model.specs.declared.limits.TheConstants.{MOST_TEXT_BYTES};
 ghost use Rattle.vm_model.specs.Program.{method_at, locals_of as model_locals_of};
 ghost use Rattle.machine_model.specs.Shapes.{first_shape as model_first_shape, parameters as model_parameters};
 ghost use Rattle.shape_verifier.specs.Answers.{flow_to};
@@ -16,7 +17,7 @@ use crate::flow::{JudgeError, Onward, judge};
 use crate::merging::{merge, takes};
 use crate::shape::{Reached, Shape};
 use std::alloc::{AllocError, AllocFailed, Global};
-use vm_model::{Kind, Method, Program};
+use vm_model::{Kind, MOST_LOCALS, Method, Program};
 
 /// Why a pass didn't end.
 #[derive(Clone, Copy, Debug, PartialEq, Eq)]
@@ -55,7 +56,7 @@ impl From<Refusal> for PassError {
 pub fn locals_of(method: &Method) -> u32
     ensures { result ≡ model_locals_of method.now }
 {
-    method.max_locals.unwrap_or(256)
+    method.max_locals.unwrap_or(MOST_LOCALS)
 }
 
 fn receiver(alloc: Global, method: &Method, count: usize) -> Result<Vec<Option<Kind>>, AllocError>
@@ -356,7 +357,7 @@ fn settle(
 /// looked at.
 pub fn pass(alloc: Global, program: &Program, number: u32, method: &Method) -> Result<(), PassError>
     requires is_method { method_at program.now number ≡ Some method.now }
-    requires few { length method.now.code ≤ 1048576 }
+    requires few { length method.now.code ≤ MOST_TEXT_BYTES }
     ensures { PassedSo result program.now number method.now }
 {
     let mut state = begin(alloc, method)?;

@@ -1,4 +1,4 @@
-//! The forms of what instructions do to a shape. A shape that an instruction refuses is unknown behind it.
+//! The forms of what instructions do to a shape. A shape that an instruction refuses is unknown after it.
 
 ghost use Rattle.std.specs.Prelude.{◌≡◌, ◌∷◌, ◌++◌, [], IfOk, Some, None, not, reverse, slice_get};
 ghost use Rattle.vm_model.specs.declared.value.Kind.TheVariants as kind;
@@ -10,6 +10,7 @@ ghost use Rattle.shape_verifier.specs.Answers.{flow_of, kinds_taken};
 
 use crate::kinds::is_assignable;
 use crate::shape::Shape;
+use built_in_classes::{PRINT_STREAM, THROWABLE};
 use vm_model::{Kind, NoMemory, Program};
 
 /// Where control goes on from an instruction, if it isn't refused.
@@ -353,7 +354,7 @@ pub fn throw(shape: &mut Shape, program: &Program) -> Step
 {
     match shape.pop() {
         Some(kind) => {
-            if is_assignable(program, kind, Kind::Ref(5)) {
+            if is_assignable(program, kind, Kind::Ref(THROWABLE)) {
                 Step::Leaves
             } else {
                 Step::Refused
@@ -368,7 +369,7 @@ pub fn print_int(shape: &mut Shape, program: &Program) -> Step
     ensures { flow_of result shape.new ≡ on_int shape.old.stack (λ rest. on_assignable program.now (kind.Ref 4) rest (λ rest'. Next (with_stack shape.old rest'))) }
 {
     match shape.pop() {
-        Some(Kind::Int) => take(shape, program, Kind::Ref(4)),
+        Some(Kind::Int) => take(shape, program, Kind::Ref(PRINT_STREAM)),
         _ => Step::Refused,
     }
 }

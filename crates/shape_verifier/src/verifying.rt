@@ -1,7 +1,7 @@
 //! Verification of a whole program.
 
 ghost use Rattle.std.specs.Prelude.{◌≡◌, IfOk, IfErr, Some, length, true, is_some};
-ghost use Rattle.vm_model.specs.Plain.{IsLinked};
+ghost use Rattle.vm_model.specs.Plain.{IsWithinBounds};
 ghost use Rattle.vm_model.specs.Program.{method_at};
 ghost use Rattle.machine_model.specs.Shapes.{IsVerified};
 ghost use Rattle.shape_verifier.specs.Verdicts.{IsLimitOf, IsRoomFor, Refuses, VerifiedSo, fault_at};
@@ -42,7 +42,7 @@ impl Shaped {
     /// The program itself. It takes no memory.
     pub fn program(&self) -> &Program
         ensures value { result.now ≡ self.now }
-        ensures linked { IsLinked self.now }
+        ensures within_bounds { IsWithinBounds self.now }
         ensures verified { IsVerified self.now }
     {
         self.plain.program()
@@ -88,7 +88,7 @@ fn fault_of(error: PassError, number: u32) -> ShapeFault
 
 /// The method of this number, if it is there.
 fn verify_method(alloc: Global, program: &Program, number: u32) -> Result<(), ShapeFault>
-    requires linked { IsLinked program.now }
+    requires within_bounds { IsWithinBounds program.now }
     ensures { VerifiedSo result program.now number }
 {
     match program.method(number) {
@@ -101,7 +101,7 @@ fn verify_method(alloc: Global, program: &Program, number: u32) -> Result<(), Sh
 }
 
 fn count_of(program: &Program) -> u32
-    requires linked { IsLinked program.now }
+    requires within_bounds { IsWithinBounds program.now }
     ensures { result ≡ length program.now.methods }
 {
     program.methods.len() as u32
@@ -109,7 +109,7 @@ fn count_of(program: &Program) -> u32
 
 /// Each method in the order of its number.
 fn verify_methods(alloc: Global, program: &Program) -> Result<(), ShapeFault>
-    requires linked { IsLinked program.now }
+    requires within_bounds { IsWithinBounds program.now }
     ensures tables { IfOk result (λ _. IsVerified program.now) }
     ensures refused { IfErr result (Refuses program.now) }
 {
@@ -122,7 +122,7 @@ fn verify_methods(alloc: Global, program: &Program) -> Result<(), ShapeFault>
 /// Verifies a linked program. The methods are taken in order of number; of a method the least instruction whose shape is new
 /// is looked at, until none is new.
 pub fn verify(alloc: Global, program: Program) -> Result<Shaped, ShapeFault>
-    requires linked { IsLinked program }
+    requires within_bounds { IsWithinBounds program }
     ensures same { IfOk result (λ s. s ≡ program) }
     ensures verified { IfOk result IsVerified }
     ensures refused { IfErr result (Refuses program) }

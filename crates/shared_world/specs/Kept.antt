@@ -1,6 +1,7 @@
 -- What holds of each state that is reached: bounds, and lists that are as long as each other.
 use Rattle.std.specs.Prelude.{◌≡◌, ℕ, ◌≤◌, length, Option, None, Some}
 use Rattle.std.specs.List.{AllByRecursion}
+use Rattle.vm_model.specs.declared.limits.TheConstants.{MOST_THREADS}
 use Rattle.machine_model.specs.declared.Kept.{Kept}
 use Rattle.machine_model.specs.declared.Row.{Row}
 use Rattle.machine_model.specs.Declarations.{Declarations}
@@ -30,4 +31,4 @@ pub record IsKept (d : Declarations) (n : ℕ) (s : SharedState) : Type 0 where
   pub monitors : AreWithin n s.monitors
   pub rows : AllByRecursion (RowWithin n) s.rows
   pub some_thread : 1 ≤ length s.rows
-  pub few_threads : length s.rows ≤ 64
+  pub few_threads : length s.rows ≤ MOST_THREADS

@@ -1,5 +1,6 @@
 -- The world as the code keeps it.
 use Rattle.std.specs.Prelude.{◌≤◌, length, vec_capacity}
+use Rattle.vm_model.specs.declared.limits.TheConstants.{MOST_EVENTS}
 use Rattle.machine_model.specs.Operations.{IsLegalHistory}
 use Rattle.shared_world.specs.Fitting.{FirstValuesFit, ValuesFit}
 use Rattle.shared_world.specs.Kept.{IsKept}
@@ -14,6 +15,6 @@ pub record IsSound (w : Inside) : Type 0 where
   pub legal : IsLegalHistory w.start w.history.items w.shared
   pub kept : IsKept w.start (length w.history.items) w.shared
   pub fit : FirstValuesFit w.start → ValuesFit w.start w.shared
-  pub budget : w.budget ≤ 1048576
+  pub budget : w.budget ≤ MOST_EVENTS
   pub within : length w.history.items ≤ w.budget
   pub room : w.budget ≤ vec_capacity w.history

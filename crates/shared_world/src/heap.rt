@@ -3,7 +3,7 @@ ghost use Rattle.std.specs.Prelude.{◌≡◌, ℕ, ◌+◌, ◌≤◌, [], ◌�
 
 use std::alloc::Global;
 use std::marker::Model;
-use vm_model::{NoMemory, ObjRef, Value};
+use vm_model::{MOST_HEAP_WORDS, MOST_OBJECTS, NoMemory, ObjRef, Value};
 
 /// An object with its class and fields, or an array with its items.
 #[derive(Debug, Drop)]
@@ -176,7 +176,7 @@ impl Heap {
     pub fn has_room(&self, words: u64) -> bool
         ensures { result ≡ has_words self.now.items words }
     {
-        self.items.len() < 262144 && words <= 4194304 - self.words as u64
+        self.items.len() < MOST_OBJECTS && words <= MOST_HEAP_WORDS - self.words as u64
     }
 
     /// Makes room for one more item. The items stay, whatever the answer.

@@ -1,46 +1,13 @@
 // Which value may be kept where.
 ghost use Rattle.std.specs.Prelude.{◌≡◌, ◌==◌, Some, slice_get};
 ghost use Rattle.std.specs.List.{list_any};
-ghost use Rattle.machine_model.specs.Kinds.{first_value as first_value_of, own_kind, is_null as is_null_value, is_args as is_args_kind, built_in_supers, listed_super};
+ghost use Rattle.machine_model.specs.Kinds.{first_value as first_value_of, own_kind, is_null as is_null_value, is_args as is_args_kind};
 
 use crate::start::Start;
-use vm_model::{Kind, Value};
-
-/// The super of each built-in class, by number, from Object to the last throwable (Java SE 8 API, `java.lang`).
-const BUILT_IN_SUPERS: [Option<u32>; 23] = [
-    None,
-    Some(0),
-    Some(0),
-    None,
-    None,
-    Some(0),
-    Some(5),
-    Some(6),
-    Some(5),
-    Some(7),
-    Some(7),
-    Some(7),
-    Some(11),
-    Some(7),
-    Some(7),
-    Some(7),
-    Some(14),
-    Some(7),
-    Some(6),
-    Some(8),
-    Some(19),
-    Some(19),
-    Some(8),
-];
-
-fn built_in_super(class: u32) -> Option<u32>
-    ensures { result ≡ listed_super (slice_get built_in_supers class) }
-{
-    match BUILT_IN_SUPERS.get(class as usize) {
-        Some(found) => *found,
-        None => None,
-    }
-}
+use built_in_classes::{
+    LONGEST_CHAIN, OBJECT, PRINT_STREAM, RUNNABLE, STRING, THREAD, built_in_super,
+};
+use vm_model::{FIRST_USER_CLASS, Kind, Value};
 
 /// What a field or a static of this kind holds at first (JVMS SE 8 §2.3 and §2.4).
 pub fn first_value(kind: Kind) -> Value
@@ -63,8 +30,8 @@ fn kind_of(value: Value) -> Kind
         Value::Null => Kind::Null,
         Value::Obj { class, .. } => Kind::Ref(class),
         Value::Arr { .. } => Kind::Arr,
-        Value::Text(_) => Kind::Ref(3),
-        Value::Stream => Kind::Ref(4),
+        Value::Text(_) => Kind::Ref(STRING),
+        Value::Stream => Kind::Ref(PRINT_STREAM),
     }
 }
 
@@ -100,11 +67,17 @@ impl Start {
     fn super_of(&self, class: u32) -> Option<u32>
         ensures { result ≡ super_of self.now class }
     {
-        if class < 32 {
+        if class < FIRST_USER_CLASS {
             return built_in_super(class);
         }
         match self.class(class) {
-            Some(found) => { if found.is_thread { Some(1) } else { Some(0) } }
+            Some(found) => {
+                if found.is_thread {
+                    Some(THREAD)
+                } else {
+                    Some(OBJECT)
+                }
+            }
             None => None,
         }
     }
@@ -126,19 +99,19 @@ impl Start {
         }
     }
 
-    /// Whether `wanted` is among the class and its supers: no chain is longer than six.
+    /// Whether `wanted` is among the class and its supers: no chain is longer.
     #[tactic(auto, unfolding(machine_model::specs::Kinds::chain))]
     fn is_in_chain(&self, class: u32, wanted: u32) -> bool
         ensures { result ≡ list_any (λ c. c == wanted) (chain self.now class) }
     {
-        self.reaches(6, class, wanted)
+        self.reaches(LONGEST_CHAIN, class, wanted)
     }
 
     /// Whether a reference to the first class may stand for one to the second.
     fn extends(&self, class: u32, wanted: u32) -> bool
         ensures { result ≡ extends self.now class wanted }
     {
-        self.is_in_chain(class, wanted) || wanted == 2 && self.is_runnable(class)
+        self.is_in_chain(class, wanted) || wanted == RUNNABLE && self.is_runnable(class)
     }
 
     /// Whether a value of the first kind may stand where the second is wanted.
@@ -170,7 +143,7 @@ impl Start {
             Kind::Arr => match to {
                 Kind::Int => false,
                 Kind::Null => false,
-                Kind::Ref(wanted) => wanted == 0,
+                Kind::Ref(wanted) => wanted == OBJECT,
                 Kind::Arr => true,
                 Kind::Args => false,
             },

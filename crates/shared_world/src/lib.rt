@@ -10,8 +10,6 @@ mod replies;
 mod rows;
 mod start;
 mod state;
-#[cfg(test)]
-mod tests;
 mod world;
 
 pub use machine_model::RowState;

@@ -6,9 +6,10 @@ ghost use Rattle.vm_model.specs.declared.value.Value.TheVariants as value;
 
 use crate::copying;
 use crate::kinds::first_value;
+use built_in_classes::{BUILT_IN_COUNT, RUNNABLE, THREAD};
 use std::alloc::Global;
 use std::marker::Model;
-use vm_model::{Class, Field, Kind, Name, NoMemory, Plain, StaticSlot, Value};
+use vm_model::{Class, FIRST_USER_CLASS, Field, Kind, Name, NoMemory, Plain, StaticSlot, Value};
 
 /// What the world knows of the program whose threads share it: the classes with their fields, the statics with their first
 /// values, and the text constants. It never changes.
@@ -79,10 +80,10 @@ impl Start {
     pub fn class(&self, class: u32) -> Option<&Class>
         ensures { option_copied result ≡ class_at self.now class }
     {
-        if class < 32 {
+        if class < FIRST_USER_CLASS {
             None
         } else {
-            self.classes.get(class as usize - 32)
+            self.classes.get((class - FIRST_USER_CLASS) as usize)
         }
     }
 
@@ -90,14 +91,14 @@ impl Start {
     pub fn is_class(&self, class: u32) -> bool
         ensures { result ≡ is_class self.now class }
     {
-        class < 23 || self.class(class).is_some()
+        class < BUILT_IN_COUNT || self.class(class).is_some()
     }
 
     /// Whether a thread can be started for an object of this class: it is Thread, whose number is 1, or extends it.
     pub fn is_thread(&self, class: u32) -> bool
         ensures { result ≡ is_thread_class self.now class }
     {
-        if class == 1 {
+        if class == THREAD {
             return true;
         }
         match self.class(class) {
@@ -110,7 +111,7 @@ impl Start {
     pub fn is_runnable(&self, class: u32) -> bool
         ensures { result ≡ is_runnable_class self.now class }
     {
-        if class == 1 {
+        if class == THREAD {
             return true;
         }
         match self.class(class) {
@@ -149,7 +150,7 @@ impl Start {
             return self.declared_kind(class, place as usize);
         }
         if place == 0 {
-            return Some(Kind::Ref(2));
+            return Some(Kind::Ref(RUNNABLE));
         }
         self.declared_kind(class, place as usize - 1)
     }

@@ -1,5 +1,6 @@
 // The shared state, and what each operation does to it.
 ghost use Rattle.std.specs.Prelude.{◌≡◌, ℕ, ◌+◌, ◌≤◌, [], ◌∷◌, ◌++◌, length, slice_get, slice_set, replicate, pos, true, Ok, None, Some, if◌then◌else◌, IsTrue, IsSome, OnOk, OnErr, IfOk};
+ghost use Rattle.vm_model.specs.declared.limits.TheConstants.{MOST_EVENTS};
 ghost use Rattle.machine_model.specs.Operations.{got as got_of, first_of};
 
 use crate::heap::{Heap, Item};
@@ -9,7 +10,10 @@ use machine_model::{Kept, Row, RowState};
 use monitor_table::{MonitorTable, Owned, Waited};
 use std::alloc::Global;
 use std::marker::Model;
-use vm_model::{Fault, FaultKind, Lock, NoMemory, ObjRef, Op, Piece, Reply, Value};
+use vm_model::{
+    Fault, FaultKind, Lock, MOST_OUTPUT_BYTES, MOST_THREADS, NoMemory, ObjRef, Op, Piece, Reply,
+    Value,
+};
 
 /// The shared state: the statics, the objects and arrays, their monitors, the threads that were started, what was printed,
 /// and the fault that ended the run, if one did.
@@ -66,7 +70,7 @@ fn line_end(newline: bool) -> &'static [u8]
     if newline { b"\n" } else { b"" }
 }
 
-/// Adds these bytes behind the output, of which nothing is copied unless it has to move.
+/// Adds these bytes after the output, of which nothing is copied unless it has to move.
 fn append(output: &mut Vec<u8>, bytes: &[u8], end: &[u8]) -> Result<(), NoMemory>
     ensures ok { OnOk result (output.new.items ≡ output.old.items ++ (bytes.now ++ end.now)) }
     ensures err { OnErr result (output.new.items ≡ output.old.items) }
@@ -248,7 +252,7 @@ impl State {
 
     fn enter(&mut self, thread: u32, lock: Lock)
         requires free { IsTrue (free_for (monitor_at self.old.monitors lock) thread) }
-        requires few { AreWithin 1048576 self.old.monitors }
+        requires few { AreWithin MOST_EVENTS self.old.monitors }
         ensures { self.new ≡ enter self.old thread lock (monitor_at self.old.monitors lock) }
     {
         self.monitors.enter(lock, thread);
@@ -266,7 +270,7 @@ impl State {
 
     fn wait(&mut self, thread: u32, lock: Lock) -> Result<Reply, NoMemory>
         requires exists { IsSome (monitor_at self.old.monitors lock) }
-        requires few { AreWithin 1048576 self.old.monitors }
+        requires few { AreWithin MOST_EVENTS self.old.monitors }
         ensures ok { IfOk result (λ reply. as_owner self.old thread (monitor_at self.old.monitors lock) (λ m. answers (record (set_monitor self.old lock (waited m thread)) { rows = set_row self.old.rows thread RowState.Waiting (Some (record { lock = lock; count = m.count })) }) (Reply.Waits m.count)) ≡ answers self.new reply) }
         ensures err { OnErr result (self.new ≡ self.old) }
     {
@@ -324,7 +328,7 @@ impl State {
             return Ok(Reply::Raise(FaultKind::ThreadState));
         }
         let thread = self.rows.len();
-        if thread >= 64 {
+        if thread >= MOST_THREADS as usize {
             return Ok(Reply::Raise(FaultKind::ThreadsFull));
         }
         self.rows.push(Row {
@@ -340,7 +344,7 @@ impl State {
         ensures err { OnErr result (self.new ≡ self.old) }
     {
         let end = line_end(newline);
-        if self.output.len() + (bytes.len() + end.len()) > 16777216 {
+        if self.output.len() + (bytes.len() + end.len()) > MOST_OUTPUT_BYTES {
             return Ok(Reply::Raise(FaultKind::OutputFull));
         }
         append(&mut self.output, bytes, end)?;
@@ -399,7 +403,7 @@ impl State {
         op: Op,
     ) -> Result<Reply, NoMemory>
         requires enabled { is_enabled start.now self.old thread op ≡ true }
-        requires few { AreWithin 1048576 self.old.monitors }
+        requires few { AreWithin MOST_EVENTS self.old.monitors }
         ensures ok { IfOk result (λ reply. apply start.now self.old thread op ≡ answers self.new reply) }
         ensures err { OnErr result (self.new ≡ self.old) }
         ensures memory { OnErr result (IsTrue (takes_memory op)) }

@@ -1,6 +1,7 @@
 ghost use Rattle.std.specs.Prelude.{◌≡◌, ◌↔◌, ℕ, ◌≤◌, ◌<◌, length, slice_get, is_some, false, true, Ok, Err, None, Some, IsTrue, IsSome, OnOk, OnErr, IfOk};
 ghost use Rattle.std.specs.List.{list_all};
 ghost use Rattle.std.specs.Option.{option_map};
+ghost use Rattle.vm_model.specs.declared.limits.TheConstants.{MOST_EVENTS, MOST_THREADS};
 
 use crate::rows;
 use crate::start::Start;
@@ -57,10 +58,10 @@ impl World {
     ghost use Rattle.shared_world.specs.Fitting.{FirstValuesFit, ValuesFit};
     ghost use Rattle.shared_world.specs.Reading.{state_of, lock_state_of};
 
-    /// The world at the start of a program, with room for so many events, from 1 to 1,048,576.
+    /// The world at the start of a program, with room for so many events, from 1 to `MOST_EVENTS`.
     pub fn new(alloc: Global, start: Start, events: u64) -> Result<World, NoMemory>
         requires some { 1 ≤ events }
-        requires limit { events ≤ 1048576 }
+        requires limit { events ≤ MOST_EVENTS }
         ensures { IfOk result (λ world. world ≡ first_world start events) }
     {
         let history = Vec::with_capacity(alloc, events as usize)?;
@@ -130,7 +131,7 @@ impl World {
     /// How many events may be made.
     pub fn budget(&self) -> u64
         ensures value { result ≡ self.now.budget }
-        ensures limit { result ≤ 1048576 }
+        ensures limit { result ≤ MOST_EVENTS }
     {
         self.budget
     }
@@ -172,7 +173,7 @@ impl World {
     pub fn rows(&self) -> u32
         ensures value { result ≡ length self.now.shared.rows }
         ensures some { 1 ≤ result }
-        ensures few { result ≤ 64 }
+        ensures few { result ≤ MOST_THREADS }
     {
         self.shared.rows().len() as u32
     }

@@ -11,7 +11,7 @@ use Rattle.jasmin_reader.specs.declared.lexeme.Lexeme.{Lexeme}
 use Rattle.jasmin_reader.specs.declared.lexeme.Lexeme.TheVariants as lexeme
 use Rattle.jasmin_reader.specs.Faults.{◌>>=◌}
 use Rattle.jasmin_reader.specs.Words.{one, word_of, is_word, is_name, is_class_name, name_of, class_name_of}
-use Rattle.jasmin_reader.specs.Directives.{split_last, class_flags, field_flags, empty_class, class_form, name_at, behind_sign, valued_by, valued, field_of, field_form}
+use Rattle.jasmin_reader.specs.Directives.{split_last, class_flags, field_flags, empty_class, class_form, name_at, after_sign, valued_by, valued, field_of, field_form}
 use Rattle.jasmin_reader.specs.Forms.{form_of}
 use Rattle.text_laws.specs.Sizes.{IsSmall}
 use Rattle.text_laws.specs.Spelled.{IsSpellable}
@@ -115,7 +115,7 @@ implements-found line words found =
 abbrev ValuedFits : List Lexeme × Option ℤ → Type 0
 ValuedFits v = AreFound false v.0 × SmallIfSome v.1
 
-signed-fits : (words front : List Lexeme) (n : ℤ) (r : Result (List Lexeme × Lexeme) ReadKind) → AreFound false words → AreFound false front → IsSmall n → split_last front ≡ r → ValuedFits (behind_sign words n r)
+signed-fits : (words front : List Lexeme) (n : ℤ) (r : Result (List Lexeme × Lexeme) ReadKind) → AreFound false words → AreFound false front → IsSmall n → split_last front ≡ r → ValuedFits (after_sign words n r)
 signed-fits words front n (Err kind) found h small e = (found, tt)
 signed-fits words front n (Ok p) found h small e =
     tested ValuedFits (is_word (codes "=") p.1) _ _
@@ -157,7 +157,7 @@ valued-again xs name desc (Some n) =
     ap split_last (sym (append_assoc xs (lexeme.Word name ∷ lexeme.Word desc ∷ lexeme.Word (codes "=") ∷ []) (lexeme.Number n ∷ []))) ∙ split-again (xs ++ lexeme.Word name ∷ lexeme.Word desc ∷ lexeme.Word (codes "=") ∷ []) (lexeme.Number n) in
     let before : split_last (xs ++ lexeme.Word name ∷ lexeme.Word desc ∷ lexeme.Word (codes "=") ∷ []) ≡ Ok (to_desc xs name desc, lexeme.Word (codes "=")) =
     ap split_last (sym (append_assoc xs (lexeme.Word name ∷ lexeme.Word desc ∷ []) (lexeme.Word (codes "=") ∷ []))) ∙ split-again (to_desc xs name desc) (lexeme.Word (codes "=")) in
-    ap (valued_by all) last ∙ ap (behind_sign all n) before
+    ap (valued_by all) last ∙ ap (after_sign all n) before
 
 field-read : (n : ℕ) (flags : List (List ℕ)) (name desc : List ℕ) (value : Option ℤ) → field_flags (map word flags) ≡ Ok flags → is_name name ≡ true → field_of n (to_desc (map word flags) name desc) value ≡ Ok (form.Field (record { line = n; flags = flags; name = name; desc = desc; value = value }))
 unfolding field_of

@@ -10,7 +10,7 @@ use Rattle.jasmin_text.specs.Texts.{tokens_of}
 use Rattle.jasmin_text.proofs.Slices.{slices}
 use Rattle.jasmin_reader.specs.declared.lexeme.Lexeme.{Lexeme}
 use Rattle.jasmin_reader.specs.declared.lexeme.Lexeme.TheVariants as lexeme
-use Rattle.jasmin_reader.specs.Lexemes.{PlainLine, lexeme_by, lexeme_of, filled, lines_behind}
+use Rattle.jasmin_reader.specs.Lexemes.{PlainLine, lexeme_by, lexeme_of, filled, lines_after}
 use Rattle.text_laws.specs.Sizes.{is_quotable}
 use Rattle.text_laws.specs.Spelled.{IsPlainWord, BeginsNoComment}
 use Rattle.text_laws.specs.OfText.{is_text, IsFound, AreFound}
@@ -77,21 +77,21 @@ end-kind token.Word bytes e = absurd (cc)
 end-kind (token.Number n) bytes e = absurd (cc)
 end-kind (token.Str text) bytes e = absurd (cc)
 
-lines-found : (text : List ℕ) (words : List Lexeme) (ts : List Token) → AllByRecursion (IsOf text) ts → AreSpaced text (last_text false words) ts → AreFound false words → AllByRecursion IsFoundLine (lines_behind text words ts)
-unfolding lines_behind
+lines-found : (text : List ℕ) (words : List Lexeme) (ts : List Token) → AllByRecursion (IsOf text) ts → AreSpaced text (last_text false words) ts → AreFound false words → AllByRecursion IsFoundLine (lines_after text words ts)
+unfolding lines_after
 lines-found text words [] says spaced h = tt
 lines-found text words (t ∷ ts) says spaced h =
     by_word (λ (ws : List Lexeme) (s : AreSpaced text (last_text false ws) ts) (f : AreFound false ws). lines-found text ws ts says.1 s f)
     (lexeme_of text t) refl (token-found text (last_text false words) t says.0 spaced.0)
   where
-    by_word : ((ws : List Lexeme) → AreSpaced text (last_text false ws) ts → AreFound false ws → AllByRecursion IsFoundLine (lines_behind text ws ts)) → (o : Option Lexeme) → lexeme_of text t ≡ o → FoundIfSome (last_text false words) o → AllByRecursion IsFoundLine (goes_on text words t ts o)
+    by_word : ((ws : List Lexeme) → AreSpaced text (last_text false ws) ts → AreFound false ws → AllByRecursion IsFoundLine (lines_after text ws ts)) → (o : Option Lexeme) → lexeme_of text t ≡ o → FoundIfSome (last_text false words) o → AllByRecursion IsFoundLine (goes_on text words t ts o)
     by_word again (Some w) e found =
         again (words ++ w ∷ [])
         (subst (λ (f : Bool). AreSpaced text f ts) (text-kind t.kind (slice_of text t.from t.to) w e ∙ sym (last-more false words w)) spaced.1)
         (found-more false words w h found)
     by_word again None e found =
-        filled-found t.line words (lines_behind text [] ts) h
+        filled-found t.line words (lines_after text [] ts) h
         (again [] (subst (λ (f : Bool). AreSpaced text f ts) (end-kind t.kind (slice_of text t.from t.to) e) spaced.1) tt)
 
-pub text-found : (text : List ℕ) (ts : List Token) → tokens_of text ≡ Ok ts → AllByRecursion IsFoundLine (lines_behind text [] ts)
+pub text-found : (text : List ℕ) (ts : List Token) → tokens_of text ≡ Ok ts → AllByRecursion IsFoundLine (lines_after text [] ts)
 text-found text ts h = lines-found text [] ts (slices text ts h) (tokens-spaced text ts h) tt

@@ -12,7 +12,7 @@ use Rattle.jasmin_reader.specs.Lexemes.{PlainLine}
 use Rattle.jasmin_reader.specs.Forms.{form_of}
 use Rattle.jasmin_reader.specs.Grammar.{PlainState, next_state, only_if, outside_methods, inside_method, lacks_super, has_label, misplaced, may_stand_first, is_end, placed, form_among}
 use Rattle.jasmin_reader.specs.Assembly.{PlainBody, PlainParts, no_parts, with_form, parts_of, labelled_lines, labelled_end}
-use Rattle.jasmin_reader.specs.Reading.{at_line, forms_behind}
+use Rattle.jasmin_reader.specs.Reading.{at_line, forms_after}
 use Rattle.text_laws.proofs.Tests.{tested, or-first}
 use Rattle.text_laws.proofs.Found.{IsFoundLine}
 use Rattle.text_laws.proofs.Again.{IsAgain, AreAgain, IsOneAtMost}
@@ -23,7 +23,7 @@ use Rattle.text_laws.proofs.Successes.{Holds, behind}
 abbrev body_labels : PlainBody → List (List ℕ)
 body_labels b = labels_of b.lines b.end_labels
 
--- the parts of lines that come behind this state
+-- the parts of lines that come after this state
 pub record AreGoodParts (s : PlainState) (p : PlainParts) : Type 0 where
   pub classes : AllByRecursion IsGoodClass p.classes
   pub members : AreGoodMembers p.members
@@ -175,15 +175,15 @@ more-good : (ends : Bool) (s : PlainState) (f : Form) (fs : List Form) → Fits 
 unfolding parts_of
 more-good ends s f fs fits h = good-form ends s f (parts_of fs no_parts) fits.1 fits.0 h
 
-pub forms-good : (last : ℕ) (s : PlainState) (lines : List PlainLine) → AllByRecursion IsFoundLine lines → Holds (GoodForms s) (forms_behind last s lines)
-unfolding forms_behind
+pub forms-good : (last : ℕ) (s : PlainState) (lines : List PlainLine) → AllByRecursion IsFoundLine lines → Holds (GoodForms s) (forms_after last s lines)
+unfolding forms_after
 forms-good last s [] found =
     tested (Holds (GoodForms s)) (lacks_super s) _ _
     (λ (_ : lacks_super s ≡ true). tt)
     (λ (e : lacks_super s ≡ false). none-good s e)
 forms-good last s (line ∷ lines) found =
     behind (GoodForms s) (at_line line.number (form_among s line lines)) _ (λ (f : Form) (e : at_line line.number (form_among s line lines) ≡ Ok f).
-    behind (GoodForms s) (forms_behind last (next_state f s) lines) _ (λ (fs : List Form) (e' : forms_behind last (next_state f s) lines ≡ Ok fs).
+    behind (GoodForms s) (forms_after last (next_state f s) lines) _ (λ (fs : List Form) (e' : forms_after last (next_state f s) lines ≡ Ok fs).
     let fits : Fits (list_any is_end lines) s f = subst (Holds (Fits (list_any is_end lines) s)) e (line-fits line.number (Fits (list_any is_end lines) s) (form_among s line lines) (among-fits s line lines found.0)) in
     let rest : GoodForms (next_state f s) fs = subst (Holds (GoodForms (next_state f s))) e' (forms-good last (next_state f s) lines found.1) in
     more-good (list_any is_end lines) s f fs fits rest))

@@ -55,7 +55,7 @@ again-by word m operands e fit read =
       unlabelled = is.unlabelled;
     }
 
--- the first operand stands behind a word
+-- the first operand stands after a word
 spellable : (w : Lexeme) → IsFound false w → IsSpellable w
 spellable (lexeme.Word b) h = h
 spellable (lexeme.Number n) h = h

@@ -9,11 +9,11 @@ use Rattle.jasmin_reader.specs.declared.form.Form.{Form}
 use Rattle.jasmin_reader.specs.Assembly.{classes_of}
 use Rattle.jasmin_reader.specs.Faults.{◌>>=◌}
 use Rattle.jasmin_reader.specs.Grammar.{PlainState, nothing_begun, next_state, lacks_super, may_stand_first, misplaced, is_end, placed, form_among}
-use Rattle.jasmin_reader.specs.Lexemes.{PlainLine, lines_behind}
+use Rattle.jasmin_reader.specs.Lexemes.{PlainLine, lines_after}
 use Rattle.jasmin_reader.specs.Plain.{PlainClassText}
-use Rattle.jasmin_reader.specs.Reading.{at_line, forms_behind, last_line, reading}
+use Rattle.jasmin_reader.specs.Reading.{at_line, forms_after, last_line, reading}
 use Rattle.std.specs.List.{list_any}
-use Rattle.text_laws.specs.LineFaults.{form_alone, form_if, forms_alone, begun_behind, fault_of, faults_behind, line_faults, IsFirst}
+use Rattle.text_laws.specs.LineFaults.{form_alone, form_if, forms_alone, begun_after, fault_of, faults_behind, line_faults, IsFirst}
 
 -- ---- a line that is well placed has its form
 
@@ -45,38 +45,38 @@ line-good : (f : Form) (r : Result (List Form) Refusal) (faults : List Refusal) 
 line-good f (Ok fs) faults forms h = (h.0, ap (λ (x : List Form). f ∷ x) h.1)
 line-good f (Err x) faults forms h = h
 
--- how reading goes on behind a line
+-- how reading goes on after a line
 abbrev read_on : ℕ → PlainState → PlainLine → List PlainLine → Result Form ReadKind → Result (List Form) Refusal
-read_on last s line lines r = at_line line.number r >>= λ f. (forms_behind last (next_state f s) lines >>= λ fs. Ok (f ∷ fs))
+read_on last s line lines r = at_line line.number r >>= λ f. (forms_after last (next_state f s) lines >>= λ fs. Ok (f ∷ fs))
 
-read-line : (last : ℕ) (s : PlainState) (line : PlainLine) (lines : List PlainLine) → forms_behind last s (line ∷ lines) ≡ read_on last s line lines (form_among s line lines)
-unfolding forms_behind
+read-line : (last : ℕ) (s : PlainState) (line : PlainLine) (lines : List PlainLine) → forms_after last s (line ∷ lines) ≡ read_on last s line lines (form_among s line lines)
+unfolding forms_after
 read-line last s line lines = refl
 
-faults-line : (last : ℕ) (s : PlainState) (line : PlainLine) (lines : List PlainLine) → faults_behind last s (line ∷ lines) ≡ fault_of line.number (form_among s line lines) ++ faults_behind last (begun_behind s (form_alone line)) lines
+faults-line : (last : ℕ) (s : PlainState) (line : PlainLine) (lines : List PlainLine) → faults_behind last s (line ∷ lines) ≡ fault_of line.number (form_among s line lines) ++ faults_behind last (begun_after s (form_alone line)) lines
 unfolding faults_behind
 faults-line last s line lines = refl
 
-at-end : (last : ℕ) (s : PlainState) → Agrees (forms_behind last s []) (faults_behind last s []) []
-unfolding forms_behind faults_behind
+at-end : (last : ℕ) (s : PlainState) → Agrees (forms_after last s []) (faults_behind last s []) []
+unfolding forms_after faults_behind
 at-end last s = by_super (lacks_super s)
   where
     by_super : (c : Bool) → Agrees (cond c (Err (record { kind = NoSuper; line = last })) (Ok [])) (cond c (record { kind = NoSuper; line = last } ∷ []) []) []
     by_super true = refl
     by_super false = (refl, refl)
 
-agrees : (last : ℕ) (s : PlainState) (lines : List PlainLine) → Agrees (forms_behind last s lines) (faults_behind last s lines) (forms_alone lines)
+agrees : (last : ℕ) (s : PlainState) (lines : List PlainLine) → Agrees (forms_after last s lines) (faults_behind last s lines) (forms_alone lines)
 agrees last s [] = at-end last s
 agrees last s (line ∷ lines) =
     subst (λ (r : Result (List Form) Refusal). Agrees r (faults_behind last s (line ∷ lines)) (forms_alone (line ∷ lines))) (sym (read-line last s line lines))
     (subst (λ (faults : List Refusal). Agrees (read_on last s line lines (form_among s line lines)) faults (forms_alone (line ∷ lines))) (sym (faults-line last s line lines))
     (by_line (λ (t : PlainState). agrees last t lines) (form_among s line lines) refl))
   where
-    by_line : ((t : PlainState) → Agrees (forms_behind last t lines) (faults_behind last t lines) (forms_alone lines)) → (r : Result Form ReadKind) → form_among s line lines ≡ r → Agrees (read_on last s line lines r) (fault_of line.number r ++ faults_behind last (begun_behind s (form_alone line)) lines) (form_if (form_alone line) ++ forms_alone lines)
+    by_line : ((t : PlainState) → Agrees (forms_after last t lines) (faults_behind last t lines) (forms_alone lines)) → (r : Result Form ReadKind) → form_among s line lines ≡ r → Agrees (read_on last s line lines r) (fault_of line.number r ++ faults_behind last (begun_after s (form_alone line)) lines) (form_if (form_alone line) ++ forms_alone lines)
     by_line again (Err kind) e = refl
     by_line again (Ok f) e =
-        subst (λ (x : Result Form ReadKind). Agrees (read_on last s line lines (Ok f)) (faults_behind last (begun_behind s x) lines) (form_if x ++ forms_alone lines)) (sym (among-alone s line lines f e))
-        (line-good f (forms_behind last (next_state f s) lines) (faults_behind last (next_state f s) lines) (forms_alone lines) (again (next_state f s)))
+        subst (λ (x : Result Form ReadKind). Agrees (read_on last s line lines (Ok f)) (faults_behind last (begun_after s x) lines) (form_if x ++ forms_alone lines)) (sym (among-alone s line lines f e))
+        (line-good f (forms_after last (next_state f s) lines) (faults_behind last (next_state f s) lines) (forms_alone lines) (again (next_state f s)))
 
 -- ---- the law
 
@@ -105,15 +105,15 @@ read-so (Ok fs) faults forms classes h = (
 )
 read-so (Err g) faults forms classes h = ((λ e. absurd (cc)), (λ i. absurd (none-first faults g i.0 h)))
 
-read-all : (text : List ℕ) (tokens : List Token) → reading text tokens ≡ classes_so (forms_behind (last_line tokens) nothing_begun (lines_behind text [] tokens))
+read-all : (text : List ℕ) (tokens : List Token) → reading text tokens ≡ classes_so (forms_after (last_line tokens) nothing_begun (lines_after text [] tokens))
 unfolding reading
 read-all text tokens = refl
 
-all-agree : (text : List ℕ) (tokens : List Token) → Agrees (forms_behind (last_line tokens) nothing_begun (lines_behind text [] tokens)) (line_faults text tokens) (forms_alone (lines_behind text [] tokens))
-all-agree text tokens = agrees (last_line tokens) nothing_begun (lines_behind text [] tokens)
+all-agree : (text : List ℕ) (tokens : List Token) → Agrees (forms_after (last_line tokens) nothing_begun (lines_after text [] tokens)) (line_faults text tokens) (forms_alone (lines_after text [] tokens))
+all-agree text tokens = agrees (last_line tokens) nothing_begun (lines_after text [] tokens)
 
 pub named-first : (text : List ℕ) (tokens : List Token) (f : Refusal) → (reading text tokens ≡ Err f) ↔ IsFirst (line_faults text tokens) f
 named-first text tokens f = subst (λ (r : Result (List PlainClassText) Refusal). (r ≡ Err f) ↔ IsFirst (line_faults text tokens) f) (sym (read-all text tokens)) (refused-so _ (line_faults text tokens) _ f (all-agree text tokens))
 
-pub read-none : (text : List ℕ) (tokens : List Token) (classes : List PlainClassText) → (reading text tokens ≡ Ok classes) ↔ ((line_faults text tokens ≡ []) × (classes ≡ classes_of (forms_alone (lines_behind text [] tokens))))
-read-none text tokens classes = subst (λ (r : Result (List PlainClassText) Refusal). (r ≡ Ok classes) ↔ ((line_faults text tokens ≡ []) × (classes ≡ classes_of (forms_alone (lines_behind text [] tokens))))) (sym (read-all text tokens)) (read-so _ (line_faults text tokens) _ classes (all-agree text tokens))
+pub read-none : (text : List ℕ) (tokens : List Token) (classes : List PlainClassText) → (reading text tokens ≡ Ok classes) ↔ ((line_faults text tokens ≡ []) × (classes ≡ classes_of (forms_alone (lines_after text [] tokens))))
+read-none text tokens classes = subst (λ (r : Result (List PlainClassText) Refusal). (r ≡ Ok classes) ↔ ((line_faults text tokens ≡ []) × (classes ≡ classes_of (forms_alone (lines_after text [] tokens))))) (sym (read-all text tokens)) (read-so _ (line_faults text tokens) _ classes (all-agree text tokens))

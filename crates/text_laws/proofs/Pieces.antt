@@ -1,4 +1,4 @@
--- A word, a number or a text that is spelled is read as one piece, where white space or the end comes behind it.
+-- A word, a number or a text that is spelled is read as one piece, where white space or the end comes after it.
 use Rattle.std.proofs.Common.{◌≡◌, ◌≢◌, ℕ, ◌+◌, ◌≤◌, Bool, false, List, [], ◌∷◌, ◌++◌, Some, Ok, length, get_or, take, refl, arith, cond, ap, ◌∙◌, nat_eq}
 use Rattle.std.specs.Fmt.{signed_decimal}
 use Rattle.std.specs.List.{position_or_len, list_any}
@@ -7,7 +7,7 @@ use Rattle.std.proofs.Math.Seq.{take-append_seam}
 use Rattle.jasmin_text.specs.declared.piece.Piece.{Piece}
 use Rattle.jasmin_text.specs.declared.token.TokenKind.{TokenKind}
 use Rattle.jasmin_text.specs.declared.token.TokenKind.TheVariants as token
-use Rattle.jasmin_text.specs.Pieces.{is_white, word_at, kind_of_word, word_piece, string_piece, string_behind, piece_at}
+use Rattle.jasmin_text.specs.Pieces.{is_white, word_at, kind_of_word, word_piece, string_piece, string_after, piece_at}
 use Rattle.jasmin_text.specs.Spans.{BeginsWhite}
 use Rattle.jasmin_reader.specs.declared.lexeme.Lexeme.{Lexeme}
 use Rattle.jasmin_reader.specs.declared.lexeme.Lexeme.TheVariants as lexeme
@@ -41,7 +41,7 @@ word-piece : (word behind : List ℕ) (kind : TokenKind) → list_any is_white w
 word-piece [] behind kind dark is begins white = absurd begins
 word-piece (b ∷ word) behind kind dark is begins white =
     let same : word_at (b ∷ word ++ behind) ≡ b ∷ word = word-again (b ∷ word) behind dark white in
-    ap (λ (q : Bool). cond q (string_piece (string_behind false 1 (word ++ behind))) (word_piece (length (word_at (b ∷ word ++ behind))) (kind_of_word (word_at (b ∷ word ++ behind))))) (not-quote b begins)
+    ap (λ (q : Bool). cond q (string_piece (string_after false 1 (word ++ behind))) (word_piece (length (word_at (b ∷ word ++ behind))) (kind_of_word (word_at (b ∷ word ++ behind))))) (not-quote b begins)
     ∙ ap (λ (x : List ℕ). word_piece (length x) (kind_of_word x)) same
     ∙ ap (word_piece (length (b ∷ word))) is
 

@@ -141,7 +141,7 @@ end-behind (x ∷ xs) ys h = by (is_end_form x) (has_end (xs ++ ys)) (end-behind
     by true b e = refl
     by false b e = e
 
--- what comes behind a method's head
+-- what comes after a method's head
 abbrev tail_of : PlainMethodText → List Form → List Form
 tail_of m rest = stack_forms m.stack ++ (locals_forms m.locals ++ (flat_map line_forms m.lines ++ (label_forms m.end_labels ++ (catch_forms m.catches ++ (form.End ∷ rest)))))
 

@@ -4,7 +4,7 @@ use Rattle.std.proofs.lemmas.Bool.Decides.{nat_tests}
 use Rattle.jasmin_text.specs.declared.fault.Broken.{Broken}
 use Rattle.jasmin_text.specs.declared.strings.Turn.{Turn}
 use Rattle.jasmin_text.specs.declared.strings.Turn.TheVariants as turn
-use Rattle.jasmin_text.specs.Pieces.{is_plain, escaped, behind_backslash, turn_of, turned, with_byte, string_behind}
+use Rattle.jasmin_text.specs.Pieces.{is_plain, escaped, after_backslash, turn_of, turned, with_byte, string_after}
 use Rattle.text_laws.specs.Sizes.{is_held, is_quotable}
 use Rattle.text_laws.proofs.Tests.{tested}
 
@@ -36,7 +36,7 @@ HeldTurn (Err f) = Unit {0}
 turn-held : (e : Bool) (n b : ℕ) → HeldTurn (turn_of e n b)
 turn-held true n b = by_escape (escaped b) (escape-held b)
   where
-    by_escape : (o : Option ℕ) → HeldIfSome o → HeldTurn (behind_backslash n o)
+    by_escape : (o : Option ℕ) → HeldIfSome o → HeldTurn (after_backslash n o)
     by_escape (Some x) h = h
     by_escape None h = tt
 turn-held false n b =
@@ -59,10 +59,10 @@ by_turn n x y (Ok turn.Backslash) t hx hy = hx
 by_turn n x y (Ok (turn.Byte b)) t hx hy = byte-more b y t hy
 by_turn n x y (Err f) t hx hy = tt
 
-string-held : (e : Bool) (n : ℕ) (rest : List ℕ) → QuotableIfOk (string_behind e n rest)
-unfolding string_behind
+string-held : (e : Bool) (n : ℕ) (rest : List ℕ) → QuotableIfOk (string_after e n rest)
+unfolding string_after
 string-held e n [] = tt
-string-held e n (b ∷ rest) = by_turn n (string_behind true (n + 1) rest) (string_behind false (n + 1) rest) (turn_of e n b) (turn-held e n b) (string-held true (n + 1) rest) (string-held false (n + 1) rest)
+string-held e n (b ∷ rest) = by_turn n (string_after true (n + 1) rest) (string_after false (n + 1) rest) (turn_of e n b) (turn-held e n b) (string-held true (n + 1) rest) (string-held false (n + 1) rest)
 
-pub string-quotable : (rest text : List ℕ) (n : ℕ) → string_behind false 1 rest ≡ Ok (text, n) → is_quotable text ≡ true
+pub string-quotable : (rest text : List ℕ) (n : ℕ) → string_after false 1 rest ≡ Ok (text, n) → is_quotable text ≡ true
 string-quotable rest text n e = subst QuotableIfOk e (string-held false 1 rest)

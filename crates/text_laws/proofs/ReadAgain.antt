@@ -1,4 +1,4 @@
--- Forms whose lines fit one behind the other are read from their own lines.
+-- Forms whose lines fit one after the other are read from their own lines.
 use Rattle.std.proofs.Common.{◌≡◌, ℕ, ◌+◌, Bool, true, false, not, ◌&&◌, List, [], ◌∷◌, Option, None, Result, Ok, Err, map, cond, refl, ap, sym, ◌∙◌, subst}
 use Rattle.std.specs.List.{AllByRecursion, list_any}
 use Rattle.jasmin_reader.specs.declared.fault.ReadKind.{ReadKind}
@@ -10,7 +10,7 @@ use Rattle.jasmin_reader.specs.Faults.{◌>>=◌}
 use Rattle.jasmin_reader.specs.Lexemes.{PlainLine}
 use Rattle.jasmin_reader.specs.Forms.{form_of}
 use Rattle.jasmin_reader.specs.Grammar.{PlainState, next_state, only_if, outside_methods, lacks_super, misplaced, may_stand_first, is_end, placed, form_among}
-use Rattle.jasmin_reader.specs.Reading.{at_line, forms_behind}
+use Rattle.jasmin_reader.specs.Reading.{at_line, forms_after}
 use Rattle.text_laws.specs.Spelled.{numbered}
 use Rattle.text_laws.proofs.CanonicalForms.{words_of}
 use Rattle.text_laws.proofs.Again.{IsAgain, on_line}
@@ -29,7 +29,7 @@ is_end_form _ = false
 abbrev pub has_end : List Form → Bool
 has_end forms = list_any is_end_form forms
 
--- a method ends behind its head
+-- a method ends after its head
 abbrev pub EndsBehind : Form → List Form → Type 0
 EndsBehind (form.Method m) forms = has_end forms ≡ true
 EndsBehind _ forms = Unit {0}
@@ -69,7 +69,7 @@ end-lines n (f ∷ fs) e =
     (λ (h : is_end_form f ≡ true). rw (end-line f n h) refl)
     (λ (h : has_end fs ≡ true). or-right (is_end (record { number = n; words = words_of f })) (list_any is_end (numbered (n + 1) (map words_of fs))) (end-lines (n + 1) fs h))
 
--- a form fits on any line, and whether or not a method ends behind it, but for a method's head
+-- a form fits on any line, and whether or not a method ends after it, but for a method's head
 still-fits : (ends : Bool) (n : ℕ) (s : PlainState) (f : Form) (fs : List Form) → misplaced true s f ≡ None → EndsBehind f fs → (has_end fs ≡ true → ends ≡ true) → misplaced ends s (on_line n f) ≡ None
 still-fits ends n s form.Skipped fs e h g = e
 still-fits ends n s form.Ignored fs e h g = e
@@ -122,17 +122,17 @@ line-read n s f lines first again here =
 abbrev ended : ℕ → Bool → Result (List Form) Refusal
 ended last b = cond b (Err (record { kind = NoSuper; line = last })) (Ok [])
 
-none-read : (last : ℕ) (s : PlainState) → lacks_super s ≡ false → forms_behind last s [] ≡ Ok []
-unfolding forms_behind
+none-read : (last : ℕ) (s : PlainState) → lacks_super s ≡ false → forms_after last s [] ≡ Ok []
+unfolding forms_after
 none-read last s e = ap (ended last) e
 
-more-read : (last n : ℕ) (s : PlainState) (f : Form) (lines : List PlainLine) (fs : List Form) → form_among s (line_with n f) lines ≡ Ok (on_line n f) → forms_behind last (next_state f s) lines ≡ Ok fs → forms_behind last s (line_with n f ∷ lines) ≡ Ok (on_line n f ∷ fs)
-unfolding forms_behind
+more-read : (last n : ℕ) (s : PlainState) (f : Form) (lines : List PlainLine) (fs : List Form) → form_among s (line_with n f) lines ≡ Ok (on_line n f) → forms_after last (next_state f s) lines ≡ Ok fs → forms_after last s (line_with n f ∷ lines) ≡ Ok (on_line n f ∷ fs)
+unfolding forms_after
 more-read last n s f lines fs here rest =
     step (at_line n (form_among s (line_with n f) lines)) _ (on_line n f) (ap (at_line n) here)
-    ∙ step (forms_behind last (next_state (on_line n f) s) lines) _ fs (ap (λ (t : PlainState). forms_behind last t lines) (same-state n s f) ∙ rest)
+    ∙ step (forms_after last (next_state (on_line n f) s) lines) _ fs (ap (λ (t : PlainState). forms_after last t lines) (same-state n s f) ∙ rest)
 
-pub forms-read : (last n : ℕ) (s : PlainState) (fs : List Form) → AllByRecursion IsAgain fs → ArePlaced s fs → forms_behind last s (numbered n (map words_of fs)) ≡ Ok (renumbered n fs)
+pub forms-read : (last n : ℕ) (s : PlainState) (fs : List Form) → AllByRecursion IsAgain fs → ArePlaced s fs → forms_after last s (numbered n (map words_of fs)) ≡ Ok (renumbered n fs)
 forms-read last n s [] again fits = none-read last s fits
 forms-read last n s (f ∷ fs) again fits =
     let here : misplaced (list_any is_end (numbered (n + 1) (map words_of fs))) s (on_line n f) ≡ None = still-fits (list_any is_end (numbered (n + 1) (map words_of fs))) n s f fs fits.0.here fits.0.ends (end-lines (n + 1) fs) in

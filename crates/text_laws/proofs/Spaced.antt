@@ -1,4 +1,4 @@
--- No word of a text begins as a comment does, but right behind a text between quotes.
+-- No word of a text begins as a comment does, but right after a text between quotes.
 use Rattle.std.proofs.Common.{◌≡◌, ◌≢◌, ℕ, zero, suc, ◌+◌, ◌-◌, Bool, true, false, ◌&&◌, List, [], ◌∷◌, Result, Ok, Err, length, get_or, drop, refl, arith, ap, sym, ◌∙◌, nat_eq, subst}
 use Rattle.std.proofs.lemmas.Bool.Decides.{nat_tests}
 use Rattle.std.proofs.lemmas.List.{drop-drop, length-take-le}
@@ -9,10 +9,10 @@ use Rattle.jasmin_text.specs.declared.place.Place.{Place}
 use Rattle.jasmin_text.specs.declared.token.Token.{Token}
 use Rattle.jasmin_text.specs.declared.token.TokenKind.{TokenKind}
 use Rattle.jasmin_text.specs.declared.token.TokenKind.TheVariants as token
-use Rattle.jasmin_text.specs.Pieces.{is_white, word_at, kind_of_word, word_piece, string_piece, string_behind, piece_at}
+use Rattle.jasmin_text.specs.Pieces.{is_white, word_at, kind_of_word, word_piece, string_piece, string_after, piece_at}
 use Rattle.jasmin_text.specs.Places.{along, next_line, first_place}
 use Rattle.jasmin_text.specs.Spans.{BeginsWhite}
-use Rattle.jasmin_text.specs.Texts.{Spoiled, with_front, with_piece, token_at, line_end, left_of_line, tokens_behind, tokens_of}
+use Rattle.jasmin_text.specs.Texts.{Spoiled, with_front, with_piece, token_at, line_end, left_of_line, tokens_after, tokens_of}
 use Rattle.jasmin_text.proofs.InOrder.{OfTokens}
 use Rattle.jasmin_text.proofs.Skipping.{left-le}
 use Rattle.text_laws.proofs.Tests.{tested}
@@ -29,7 +29,7 @@ abbrev pub AreSpaced : List ℕ → Bool → List Token → Type 0
 AreSpaced text behind_text [] = Unit {0}
 AreSpaced text behind_text (t ∷ ts) = BeginsAnew text behind_text t × AreSpaced text (is_string t.kind) ts
 
--- ---- white space behind a word
+-- ---- white space after a word
 
 white-first : (b : ℕ) (rest : List ℕ) → is_white b ≡ true → position_or_len is_white (b ∷ rest) ≡ 0
 white-first b rest h = rw h refl
@@ -61,7 +61,7 @@ piece-ends : (b : ℕ) (rest : List ℕ) → is_white b ≡ false → EndsWhite 
 piece-ends b rest dark =
     let size : length (word_at (b ∷ rest)) - 1 ≡ position_or_len is_white rest = omega (arith, length-take-le (position_or_len is_white (b ∷ rest)) (b ∷ rest) (left-le is_white (b ∷ rest)), dark-first b rest dark) in
     tested (EndsWhite rest) (nat_eq b 34) _ _
-    (λ (_ : nat_eq b 34 ≡ true). string-ends rest (string_behind false 1 rest))
+    (λ (_ : nat_eq b 34 ≡ true). string-ends rest (string_after false 1 rest))
     (λ (_ : nat_eq b 34 ≡ false). word-ends rest (length (word_at (b ∷ rest))) (kind_of_word (word_at (b ∷ rest))) (subst (λ (n : ℕ). BeginsWhite (drop n rest)) (sym size) (white-behind rest)))
 
 -- ---- tokens
@@ -74,7 +74,7 @@ piece-spaced : (text : List ℕ) (behind_text : Bool) (rest : List ℕ) (p : Pla
 piece-spaced text behind_text rest p behind (Ok piece) ends here h = with-token text behind_text (token_at p piece) (behind piece.length) here (h piece.length piece.kind ends)
 piece-spaced text behind_text rest p behind (Err f) ends here h = tt
 
--- a comment can begin behind these bytes only where white space begins there, or no text stands before
+-- a comment can begin after these bytes only where white space begins there, or no text stands before
 abbrev IsReady : ℕ → Bool → Bool → List ℕ → Type 0
 IsReady n is_open behind_text rest = behind_text ≡ false → is_open ≡ false → BeginsWhite (drop n rest)
 
@@ -94,8 +94,8 @@ no-comment false b rest dark closed h e = let white : is_white b ≡ true = h re
 feed-first : (b : ℕ) → nat_eq b 10 ≡ true → b ≢ 59
 feed-first b h e = grind (arith, nat_tests)
 
-spaced : (text : List ℕ) (n : ℕ) (is_open : Bool) (p : Place) (rest : List ℕ) (behind_text : Bool) → drop p.offset text ≡ rest → IsReady n is_open behind_text rest → OfTokens (AreSpaced text behind_text) (tokens_behind n is_open p rest)
-unfolding tokens_behind
+spaced : (text : List ℕ) (n : ℕ) (is_open : Bool) (p : Place) (rest : List ℕ) (behind_text : Bool) → drop p.offset text ≡ rest → IsReady n is_open behind_text rest → OfTokens (AreSpaced text behind_text) (tokens_after n is_open p rest)
+unfolding tokens_after
 spaced text n is_open p [] behind_text e ready =
     tested (AreSpaced text behind_text) (nat_eq p.column 1) _ _
     (λ (_ : nat_eq p.column 1 ≡ true). tt)
@@ -104,12 +104,12 @@ spaced text (suc n) is_open p (b ∷ rest) behind_text e ready = spaced text n i
 spaced text zero is_open p (b ∷ rest) behind_text e ready =
     let on : drop (p.offset + 1) text ≡ rest = next text p.offset b rest e in
     tested (OfTokens (AreSpaced text behind_text)) (nat_eq b 10) _ _
-    (λ (feed : nat_eq b 10 ≡ true). with-token text behind_text (line_end p 1) (tokens_behind 0 true (next_line p) rest) (λ _. first-byte text p.offset b rest e (feed-first b feed)) (spaced text 0 true (next_line p) rest false on (open-ready 0 false rest)))
+    (λ (feed : nat_eq b 10 ≡ true). with-token text behind_text (line_end p 1) (tokens_after 0 true (next_line p) rest) (λ _. first-byte text p.offset b rest e (feed-first b feed)) (spaced text 0 true (next_line p) rest false on (open-ready 0 false rest)))
     (λ (_ : nat_eq b 10 ≡ false). tested (OfTokens (AreSpaced text behind_text)) (is_white b) _ _
     (λ (_ : is_white b ≡ true). spaced text 0 true (along 1 p) rest behind_text on (open-ready 0 behind_text rest))
     (λ (dark : is_white b ≡ false). tested (OfTokens (AreSpaced text behind_text)) (is_open && nat_eq b 59) _ _
     (λ (_ : (is_open && nat_eq b 59) ≡ true). spaced text (left_of_line rest) true (along 1 p) rest behind_text on (open-ready (left_of_line rest) behind_text rest))
-    (λ (closed : (is_open && nat_eq b 59) ≡ false). piece-spaced text behind_text rest p (λ n. tokens_behind (n - 1) false (along 1 p) rest) (piece_at (b ∷ rest)) (piece-ends b rest dark)
+    (λ (closed : (is_open && nat_eq b 59) ≡ false). piece-spaced text behind_text rest p (λ n. tokens_after (n - 1) false (along 1 p) rest) (piece_at (b ∷ rest)) (piece-ends b rest dark)
     (λ f. first-byte text p.offset b rest e (no-comment is_open b rest dark closed (ready f)))
     (λ (m : ℕ) (k : TokenKind) (ends : is_string k ≡ false → BeginsWhite (drop (m - 1) rest)). spaced text (m - 1) false (along 1 p) rest (is_string k) on (λ f _. ends f)))))
 

@@ -9,12 +9,12 @@ use Rattle.jasmin_reader.specs.declared.form.Form.TheVariants as form
 use Rattle.jasmin_reader.specs.declared.lexeme.Lexeme.TheVariants as lexeme
 use Rattle.jasmin_reader.specs.Canonical.{canonical}
 use Rattle.jasmin_reader.specs.Plain.{PlainLineText, PlainMethodText, PlainClassText}
-use Rattle.jasmin_reader.specs.Lexemes.{lines_behind}
+use Rattle.jasmin_reader.specs.Lexemes.{lines_after}
 use Rattle.jasmin_reader.specs.Directives.{end_form}
 use Rattle.jasmin_reader.specs.Forms.{form_of}
 use Rattle.jasmin_reader.specs.Grammar.{nothing_begun}
 use Rattle.jasmin_reader.specs.Assembly.{no_parts, parts_of, classes_of}
-use Rattle.jasmin_reader.specs.Reading.{forms_behind, last_line, reading}
+use Rattle.jasmin_reader.specs.Reading.{forms_after, last_line, reading}
 use Rattle.text_laws.specs.Spelled.{spelled, IsSpellableLine, numbered}
 use Rattle.text_laws.specs.Alike.{HasLines, ReadsAlike, without_lines}
 use Rattle.text_laws.proofs.CanonicalForms.{words_of, unlabelled, line_forms, stack_forms, locals_forms, label_forms, catch_forms, body_forms, limit_forms, head_form, method_forms, member_forms, class_forms, forms_of, named_or}
@@ -101,24 +101,24 @@ classes-good : (text : List ℕ) (tokens : List Token) (classes : List PlainClas
 unfolding reading
 classes-good text tokens classes e r =
     subst (Holds (AllByRecursion IsGoodClass)) r
-    (behind (AllByRecursion IsGoodClass) (forms_behind (last_line tokens) nothing_begun (lines_behind text [] tokens)) (λ forms. Ok (classes_of forms))
-    (λ (forms : List Form) (f : forms_behind (last_line tokens) nothing_begun (lines_behind text [] tokens) ≡ Ok forms).
-    let good : AreGoodParts nothing_begun (parts_of forms no_parts) = subst (Holds (λ fs. AreGoodParts nothing_begun (parts_of fs no_parts))) f (forms-good (last_line tokens) nothing_begun (lines_behind text [] tokens) (text-found text tokens e)) in
+    (behind (AllByRecursion IsGoodClass) (forms_after (last_line tokens) nothing_begun (lines_after text [] tokens)) (λ forms. Ok (classes_of forms))
+    (λ (forms : List Form) (f : forms_after (last_line tokens) nothing_begun (lines_after text [] tokens) ≡ Ok forms).
+    let good : AreGoodParts nothing_begun (parts_of forms no_parts) = subst (Holds (λ fs. AreGoodParts nothing_begun (parts_of fs no_parts))) f (forms-good (last_line tokens) nothing_begun (lines_after text [] tokens) (text-found text tokens e)) in
     good.classes))
 
 -- ---- what is read again
 
-forms-reading : (text : List ℕ) (tokens : List Token) (forms : List Form) → forms_behind (last_line tokens) nothing_begun (lines_behind text [] tokens) ≡ Ok forms → reading text tokens ≡ Ok (classes_of forms)
+forms-reading : (text : List ℕ) (tokens : List Token) (forms : List Form) → forms_after (last_line tokens) nothing_begun (lines_after text [] tokens) ≡ Ok forms → reading text tokens ≡ Ok (classes_of forms)
 unfolding reading
-forms-reading text tokens forms e = step (forms_behind (last_line tokens) nothing_begun (lines_behind text [] tokens)) (λ fs. Ok (classes_of fs)) forms e
+forms-reading text tokens forms e = step (forms_after (last_line tokens) nothing_begun (lines_after text [] tokens)) (λ fs. Ok (classes_of fs)) forms e
 
-forms-alike : (fs : List Form) (classes : List PlainClassText) → AllAgain fs → ((last : ℕ) → forms_behind last nothing_begun (numbered 1 (map words_of fs)) ≡ Ok (renumbered 1 fs)) → classes_of fs ≡ classes → ReadsAlike (spelled (map words_of fs)) classes
+forms-alike : (fs : List Form) (classes : List PlainClassText) → AllAgain fs → ((last : ℕ) → forms_after last nothing_begun (numbered 1 (map words_of fs)) ≡ Ok (renumbered 1 fs)) → classes_of fs ≡ classes → ReadsAlike (spelled (map words_of fs)) classes
 forms-alike fs classes again read same =
     let found : HasLines (spelled (map words_of fs)) (map words_of fs) = has-lines (map words_of fs) (lines-fit fs again) in (
       found.0,
       classes_of (renumbered 1 fs),
       found.1,
-      forms-reading (spelled (map words_of fs)) found.0 (renumbered 1 fs) (ap (forms_behind (last_line found.0) nothing_begun) found.2 ∙ read (last_line found.0)),
+      forms-reading (spelled (map words_of fs)) found.0 (renumbered 1 fs) (ap (forms_after (last_line found.0) nothing_begun) found.2 ∙ read (last_line found.0)),
       classes-alike 1 fs ∙ ap (map without_lines) same,
     )
 

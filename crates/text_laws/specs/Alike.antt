@@ -5,7 +5,7 @@ use Rattle.jasmin_text.specs.Texts.{tokens_of}
 use Rattle.jasmin_reader.specs.declared.class_text.NameAt.{NameAt}
 use Rattle.jasmin_reader.specs.declared.class_text.CatchText.{CatchText}
 use Rattle.jasmin_reader.specs.declared.lexeme.Lexeme.{Lexeme}
-use Rattle.jasmin_reader.specs.Lexemes.{lines_behind}
+use Rattle.jasmin_reader.specs.Lexemes.{lines_after}
 use Rattle.jasmin_reader.specs.Plain.{PlainLineText, PlainFieldText, PlainMethodText, PlainClassText}
 use Rattle.jasmin_reader.specs.Reading.{reading}
 use Rattle.text_laws.specs.Spelled.{numbered}
@@ -14,7 +14,7 @@ use Rattle.text_laws.specs.Spelled.{numbered}
 
 -- a text has these lines of words, numbered from 1 on
 abbrev pub HasLines : List ℕ → List (List Lexeme) → Type 0
-HasLines bytes lines = (tokens : List Token) × (tokens_of bytes ≡ Ok tokens) × (lines_behind bytes [] tokens ≡ numbered 1 lines)
+HasLines bytes lines = (tokens : List Token) × (tokens_of bytes ≡ Ok tokens) × (lines_after bytes [] tokens ≡ numbered 1 lines)
 
 -- ---- each item as if it stood on line 0
 

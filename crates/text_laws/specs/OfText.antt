@@ -9,7 +9,7 @@ abbrev pub is_text : Lexeme → Bool
 is_text (lexeme.Text text) = true
 is_text _ = false
 
--- A word that begins as a comment does can stand only right behind a text between quotes.
+-- A word that begins as a comment does can stand only right after a text between quotes.
 abbrev pub IsFound : Bool → Lexeme → Type 0
 IsFound true (lexeme.Word word) = IsPlainWord word
 IsFound false (lexeme.Word word) = IsPlainWord word × BeginsNoComment word

@@ -1,4 +1,4 @@
--- Lines of words as text: single spaces between the words of a line, and a line feed behind each line.
+-- Lines of words as text: single spaces between the words of a line, and a line feed after each line.
 use Rattle.std.specs.Prelude.{◌≡◌, ◌≢◌, ℕ, ◌+◌, false, true, List, [], ◌∷◌, ◌++◌, Ok}
 use Rattle.std.specs.Fmt.{signed_decimal}
 use Rattle.std.specs.List.{list_any, flat_map, AllByRecursion}

@@ -3,13 +3,13 @@ ghost use Rattle.std.specs.Fmt.{signed_decimal};
 ghost use Rattle.std.specs.List.{AllByRecursion};
 ghost use Rattle.jasmin_text.specs.declared.token.Token.{Token};
 ghost use Rattle.jasmin_text.specs.Numbers.{number_of};
-ghost use Rattle.jasmin_text.specs.Pieces.{string_behind};
+ghost use Rattle.jasmin_text.specs.Pieces.{string_after};
 ghost use Rattle.jasmin_text.specs.Texts.{tokens_of};
 ghost use Rattle.jasmin_reader.specs.declared.fault.Refusal.{Refusal};
 ghost use Rattle.jasmin_reader.specs.declared.lexeme.Lexeme.{Lexeme};
 ghost use Rattle.jasmin_reader.specs.Assembly.{classes_of};
 ghost use Rattle.jasmin_reader.specs.Canonical.{quoted, canonical};
-ghost use Rattle.jasmin_reader.specs.Lexemes.{lines_behind};
+ghost use Rattle.jasmin_reader.specs.Lexemes.{lines_after};
 ghost use Rattle.jasmin_reader.specs.Plain.{PlainClassText};
 ghost use Rattle.jasmin_reader.specs.Reading.{reading};
 ghost use Rattle.text_laws.specs.LineFaults.{IsFirst, forms_alone, line_faults};
@@ -22,12 +22,12 @@ pub fn numbers_read_back()
     ensures { (n : ℤ) → IsSmall n → number_of (signed_decimal n) ≡ Some n }
 {}
 
-/// A text between quotes is read from what is written of it, whatever comes behind it.
+/// A text between quotes is read from what is written of it, whatever comes after it.
 pub fn strings_read_back()
-    ensures { (text behind : List ℕ) → is_quotable text ≡ true → string_behind false 1 (drop 1 (quoted text) ++ behind) ≡ Ok (text, length (quoted text)) }
+    ensures { (text behind : List ℕ) → is_quotable text ≡ true → string_after false 1 (drop 1 (quoted text) ++ behind) ≡ Ok (text, length (quoted text)) }
 {}
 
-/// Lines of words that are spelled, a line feed behind each, read as these lines, numbered from 1 on.
+/// Lines of words that are spelled, a line feed after each, read as these lines, numbered from 1 on.
 pub fn lines_read_back()
     ensures { (lines : List (List Lexeme)) → AllByRecursion IsSpellableLine lines → HasLines (spelled lines) lines }
 {}
@@ -47,5 +47,5 @@ pub fn canonical_text_tells_classes_apart()
 pub fn named_line_is_first()
     ensures refused { (text : List ℕ) (tokens : List Token) (f : Refusal) → (reading text tokens ≡ Err f) ↔ IsFirst (line_faults text tokens) f }
     ensures before { (text : List ℕ) (tokens : List Token) (f : Refusal) (g : Refusal) → tokens_of text ≡ Ok tokens → reading text tokens ≡ Err f → Contains (line_faults text tokens) g → f.line ≤ g.line }
-    ensures read { (text : List ℕ) (tokens : List Token) (classes : List PlainClassText) → (reading text tokens ≡ Ok classes) ↔ ((line_faults text tokens ≡ []) × (classes ≡ classes_of (forms_alone (lines_behind text [] tokens)))) }
+    ensures read { (text : List ℕ) (tokens : List Token) (classes : List PlainClassText) → (reading text tokens ≡ Ok classes) ↔ ((line_faults text tokens ≡ []) × (classes ≡ classes_of (forms_alone (lines_after text [] tokens)))) }
 {}

@@ -1,7 +1,6 @@
 -- What a recorder keeps of a run, and what its run has to do with the schedule without switches.
-use Rattle.std.proofs.Common.{◌≡◌, ℕ, zero, suc, ◌+◌, ◌-◌, ◌<◌, ◌≤◌, Bool, true, false, cond, List, [], ◌∷◌, ◌++◌, Option, Some, None, length, refl, sym, ap, subst, ◌∙◌, arith}
+use Rattle.std.proofs.Common.{◌≡◌, ℕ, suc, ◌+◌, ◌-◌, ◌<◌, ◌≤◌, Bool, true, false, cond, List, [], ◌∷◌, ◌++◌, Some, None, length, refl, sym, ap, subst, ◌∙◌, arith}
 use Rattle.std.specs.Prelude.{All, find}
-use Rattle.std.specs.List.{list_any}
 use Rattle.std.proofs.lemmas.Bool.{eqb-false}
 use Rattle.std.proofs.lemmas.List.{append-nil, append_assoc, length-append, length-map}
 use Rattle.vm_model.specs.declared.ends.End.{End}
@@ -9,9 +8,8 @@ use Rattle.vm_model.specs.declared.ends.EndKind.{EndKind}
 use Rattle.vm_model.specs.declared.op.Entry.{Entry}
 use Rattle.vm_model.specs.Ends.{kind_of_end}
 use Rattle.vm_model.specs.Program.{PlainProgram}
-use Rattle.machine_model.specs.Shared.{is_live}
 use Rattle.machine_model.specs.Machine.{MachineState, all_threads, end_of, is_enabled, run, start_machine, thread_of, threads_of, turn, IsRun}
-use Rattle.machine_model.specs.Ring.{moved_on, pick, ring_after, schedule_threads, scheduled_from}
+use Rattle.machine_model.specs.Ring.{moved_on, pick, ring_after, schedule_threads, scheduled_from, switches_at}
 use Rattle.machine_model.proofs.Picks.{enabled_thread-live, pick_none-any}
 use Rattle.machine_model.proofs.Runs.{end_of-open, scheduled-ended, scheduled-more, threads_of-push, turn-adds}
 use Rattle.machine_model.proofs.Turns.{live-started, spent-whole}
@@ -19,8 +17,6 @@ use Rattle.schedule_log.specs.Foldings.{PlainFolding}
 use Rattle.schedule_log.specs.Logs.{PlainLog, IsLawful, expansion}
 use Rattle.schedule_log.specs.Parts.{log_of_parts, AreParts, IsLoggable}
 use Rattle.schedule_log.proofs.Folded.{folded_run}
-use Rattle.event_machine.specs.MachineView.{MachineView, machine_of}
-use Rattle.event_machine.specs.Turns.{Turned}
 use Rattle.thread_driver.specs.Recordings.{IsRecording}
 
 pub length-threads_of : (h : List Entry) → length (threads_of h) ≡ length h
@@ -78,21 +74,21 @@ recording p m budget e kind parts log output ran ended can are same is printed =
       printed = printed;
     }
 
--- ---- the schedule without switches
+-- ---- the run of a schedule
 
 -- the run so far, and what the schedule goes on with
-pub record Follows (p : PlainProgram) (events : ℕ) (m : MachineState) (t : ℕ) : Type 0 where
+pub record Follows (p : PlainProgram) (times : List ℕ) (events : ℕ) (m : MachineState) (t : ℕ) : Type 0 where
   pub within : length m.history ≤ events
-  pub threads : schedule_threads p [] events ≡ threads_of m.history ++ scheduled_from p [] events m t (events - length m.history)
+  pub threads : schedule_threads p times events ≡ threads_of m.history ++ scheduled_from p times events m t (events - length m.history)
 
-pub follows-start : (p : PlainProgram) (events : ℕ) (m : MachineState) → m ≡ start_machine p → Follows p events m 0
-follows-start p events m e = subst (λ (k : MachineState). Follows p events k 0) (sym e) (let whole : events ≡ events - 0 = omega arith in record { within = omega arith; threads = ap (scheduled_from p [] events (start_machine p) 0) whole })
+pub follows-start : (p : PlainProgram) (times : List ℕ) (events : ℕ) (m : MachineState) → m ≡ start_machine p → Follows p times events m 0
+follows-start p times events m e = subst (λ (k : MachineState). Follows p times events k 0) (sym e) (let whole : events ≡ events - 0 = omega arith in record { within = omega arith; threads = ap (scheduled_from p times events (start_machine p) 0) whole })
 
 pub left : (p : PlainProgram) (m : MachineState) (budget : ℕ) → end_of p m budget ≡ None → length m.history ≤ budget → length m.history < budget
 left p m budget e within = omega (arith, within, eqb-false (length m.history) budget (end_of-open p m budget e).not_spent)
 
-pub follows-more : (p : PlainProgram) (events : ℕ) (m n : MachineState) (t u : ℕ) → end_of p m events ≡ None → pick p m t 0 ≡ Some u → turn p m u ≡ Some n → Follows p events m t → Follows p events n u
-follows-more p events m n t u open' picked turned f =
+pub follows-more : (p : PlainProgram) (times : List ℕ) (events : ℕ) (m n : MachineState) (t u : ℕ) → end_of p m events ≡ None → pick p m t (switches_at times (length m.history)) ≡ Some u → turn p m u ≡ Some n → Follows p times events m t → Follows p times events n u
+follows-more p times events m n t u open' picked turned f =
     let size = length-more p m n u turned in
     let room = left p m events open' f.within in
     let step : events - length m.history ≡ suc (events - length n.history) = omega (arith, size, room) in
@@ -100,15 +96,15 @@ follows-more p events m n t u open' picked turned f =
       within = omega (arith, size, room);
       threads =
           f.threads
-          ∙ ap (λ (k : ℕ). threads_of m.history ++ scheduled_from p [] events m t k) step
-          ∙ ap (λ (ts : List ℕ). threads_of m.history ++ ts) (scheduled-more p [] events m n t u (events - length n.history) open' picked turned)
-          ∙ sym (append_assoc (threads_of m.history) (u ∷ []) (scheduled_from p [] events n u (events - length n.history)))
-          ∙ ap (λ (ts : List ℕ). ts ++ scheduled_from p [] events n u (events - length n.history)) (sym (column-more p m n u turned));
+          ∙ ap (λ (k : ℕ). threads_of m.history ++ scheduled_from p times events m t k) step
+          ∙ ap (λ (ts : List ℕ). threads_of m.history ++ ts) (scheduled-more p times events m n t u (events - length n.history) open' picked turned)
+          ∙ sym (append_assoc (threads_of m.history) (u ∷ []) (scheduled_from p times events n u (events - length n.history)))
+          ∙ ap (λ (ts : List ℕ). ts ++ scheduled_from p times events n u (events - length n.history)) (sym (column-more p m n u turned));
     }
 
-pub follows-ended : (p : PlainProgram) (events : ℕ) (m : MachineState) (t : ℕ) (e : End) → end_of p m events ≡ Some e → Follows p events m t → threads_of m.history ≡ schedule_threads p [] events
-follows-ended p events m t e ended f =
-    sym (f.threads ∙ ap (λ (ts : List ℕ). threads_of m.history ++ ts) (scheduled-ended p [] events m t (events - length m.history) e ended) ∙ append-nil (threads_of m.history))
+pub follows-ended : (p : PlainProgram) (times : List ℕ) (events : ℕ) (m : MachineState) (t : ℕ) (e : End) → end_of p m events ≡ Some e → Follows p times events m t → threads_of m.history ≡ schedule_threads p times events
+follows-ended p times events m t e ended f =
+    sym (f.threads ∙ ap (λ (ts : List ℕ). threads_of m.history ++ ts) (scheduled-ended p times events m t (events - length m.history) e ended) ∙ append-nil (threads_of m.history))
 
 -- ---- the thread that is picked
 

@@ -16,8 +16,10 @@ use Rattle.event_machine.specs.MachineView.{MachineView, machine_of}
 use Rattle.event_machine.specs.Turns as turns
 use Rattle.event_machine.specs.declared.machine.TurnFault.{TurnFault}
 use Rattle.event_machine.specs.declared.machine.TurnFault.TheVariants as fault
-use Rattle.thread_driver.specs.Answers.{refusal, Refuses}
+use Rattle.thread_driver.specs.Answers.{refusal, Refuses, RefusesBefore}
 use Rattle.thread_driver.specs.Recordings.{DivergesAt}
+use Rattle.thread_driver.specs.declared.replay.ReplayFault.{ReplayFault}
+use Rattle.thread_driver.specs.declared.replay.ReplayFault.TheVariants as replay
 
 -- one turn more of the log
 pub turned-more : (p : PlainProgram) (threads : List ℕ) (clock : ℕ) (m n : MachineState) → clock < length threads → run p (take clock threads) ≡ Some m → turn p m (get_or threads clock 0) ≡ Some n → run p (take (clock + 1) threads) ≡ Some n
@@ -48,13 +50,26 @@ over : (p : PlainProgram) (m : MachineState) (budget t : ℕ) → IsSome (end_of
 over p m budget t is room = let e = some_of (end_of p m budget) is in turn-ended p m budget t e.0 e.1 room
 
 -- a turn of the log that isn't made, other than for memory, parts the log from the program
-pub refused : (p : PlainProgram) (log : PlainLog) (threads : List ℕ) (clock t : ℕ) (old new : MachineView) (f : TurnFault) → IsLawful log → threads ≡ expansion log → clock < length threads → t ≡ get_or threads clock 0
-    → run p (take clock threads) ≡ Some (machine_of old) → old.world.budget ≡ log.budget → turns.Refuses p old t f new → Refuses p log (refusal f clock t)
-refused p log threads clock t old new fault.Over law same lt at ran budget r =
+pub refused : (p : PlainProgram) (log : PlainLog) (threads : List ℕ) (count clock t : ℕ) (old new : MachineView) (f : TurnFault) → IsLawful log → threads ≡ expansion log → clock < count → clock < length threads → t ≡ get_or threads clock 0
+    → run p (take clock threads) ≡ Some (machine_of old) → old.world.budget ≡ log.budget → turns.Refuses p old t f new → RefusesBefore p log count (refusal f clock t)
+refused p log threads count clock t old new fault.Over law same before lt at ran budget r =
     let ran' : run p (take clock (expansion log)) ≡ Some (machine_of old) = ap (λ (ts : List ℕ). run p (take clock ts)) (sym same) ∙ ran in
     let lt' : clock < length (expansion log) = subst (λ (ts : List ℕ). clock < length ts) same lt in
     let room : length old.world.history < old.world.budget = omega (arith, left_of p log clock (machine_of old) law lt' ran', budget) in
-    diverges_at p log threads clock t (machine_of old) same lt at ran (over p (machine_of old) old.world.budget t r.1 room)
-refused p log threads clock t old new fault.NotLive law same lt at ran budget r = diverges_at p log threads clock t (machine_of old) same lt at ran (turn-not_live p (machine_of old) t r.2)
-refused p log threads clock t old new fault.NotEnabled law same lt at ran budget r = diverges_at p log threads clock t (machine_of old) same lt at ran (turn-disabled p (machine_of old) t r.3)
-refused p log threads clock t old new fault.NoMemory law same lt at ran budget r = tt
+    (diverges_at p log threads clock t (machine_of old) same lt at ran (over p (machine_of old) old.world.budget t r.1 room), before)
+refused p log threads count clock t old new fault.NotLive law same before lt at ran budget r =
+    (diverges_at p log threads clock t (machine_of old) same lt at ran (turn-not_live p (machine_of old) t r.2), before)
+refused p log threads count clock t old new fault.NotEnabled law same before lt at ran budget r =
+    (diverges_at p log threads clock t (machine_of old) same lt at ran (turn-disabled p (machine_of old) t r.3), before)
+refused p log threads count clock t old new fault.NoMemory law same before lt at ran budget r = tt
+
+-- a turn that isn't made before a clock isn't made before the end
+pub refused_at_all : (p : PlainProgram) (log : PlainLog) (count : ℕ) (f : ReplayFault) → RefusesBefore p log count f → Refuses p log f
+refused_at_all p log count (replay.Diverged clock (Some thread)) r = r.0
+refused_at_all p log count (replay.Diverged clock None) r = absurd r
+refused_at_all p log count replay.NoMemory r = tt
+
+pub refused_later : (p : PlainProgram) (log : PlainLog) (count later : ℕ) (f : ReplayFault) → count ≤ later → RefusesBefore p log count f → RefusesBefore p log later f
+refused_later p log count later (replay.Diverged clock (Some thread)) le r = (r.0, omega (arith, le, r.1))
+refused_later p log count later (replay.Diverged clock None) le r = absurd r
+refused_later p log count later replay.NoMemory le r = tt

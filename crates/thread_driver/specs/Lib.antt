@@ -1,2 +1,3 @@
 pub mod Recordings
 pub mod Answers
+pub mod Waiting

@@ -3,9 +3,7 @@
 
 mod record;
 mod replay;
+mod switches;
 
-pub use record::{DriverFault, Recording, record_still};
-pub use replay::{ReplayFault, replay_still};
-
-#[cfg(test)]
-mod tests;
+pub use record::{DriverFault, Recording, record_schedule, record_still};
+pub use replay::{ReplayFault, replay_still, replay_until};

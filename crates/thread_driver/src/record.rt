@@ -1,4 +1,5 @@
 ghost use Rattle.std.specs.Prelude.{◌≡◌, ◌≤◌, ◌<◌, ◌^◌, ℕ, [], ◌++◌, ◌∷◌, length, IfOk, OnOk, IfErr, Some, None, true, false, ◌+◌};
+ghost use Rattle.vm_model.specs.declared.limits.TheConstants.{MOST_EVENTS};
 ghost use Rattle.vm_model.specs.Program.{PlainProgram};
 ghost use Rattle.vm_model.specs.Ends.{kind_of_end};
 ghost use Rattle.machine_model.specs.Machine.{end_of, is_enabled, start_machine, threads_of, turn};
@@ -10,13 +11,11 @@ ghost use Rattle.event_machine.specs.MachineView.{machine_of, IsMachineOf};
 ghost use Rattle.event_machine.specs.Turns.{Turned};
 ghost use Rattle.thread_driver.specs.Recordings.{IsRecording};
 
+use crate::switches::{in_order, places_at};
 use event_machine::{Machine, TurnFault};
 use schedule_log::{Folding, Log};
 use std::alloc::Global;
-use vm_model::{End, NoMemory, Plain};
-
-/// The greatest number of threads of a run.
-const MOST_THREADS: u32 = 64;
+use vm_model::{End, MOST_THREADS, NoMemory, Plain};
 
 /// What is kept of a run: its log, the bytes that it printed, and how it ended.
 #[derive(Drop)]
@@ -34,7 +33,7 @@ pub enum DriverFault {
 
 /// A folding for each thread that a run can have.
 fn foldings(alloc: Global) -> Result<Vec<Folding>, NoMemory>
-    ensures { IfOk result (λ parts. (length parts.items ≡ 64) × AreParts [] parts.items) }
+    ensures { IfOk result (λ parts. (length parts.items ≡ MOST_THREADS) × AreParts [] parts.items) }
 {
     let mut parts = Vec::new(alloc);
     for thread in 0..MOST_THREADS {
@@ -55,14 +54,14 @@ fn record_event(
     requires whole { machine.old.is_broken ≡ false }
     requires open { end_of plain.now (machine_of machine.old) machine.old.world.budget ≡ None }
     requires enabled { is_enabled plain.now (machine_of machine.old) thread ≡ true }
-    requires few { length parts.old.items ≡ 64 }
+    requires few { length parts.old.items ≡ MOST_THREADS }
     requires parts { AreParts (threads_of machine.old.world.history) parts.old.items }
     ensures own { OnOk result (IsMachineOf plain.now machine.new) }
     ensures whole { OnOk result (machine.new.is_broken ≡ false) }
     ensures turned { OnOk result (turn plain.now (machine_of machine.old) thread ≡ Some (machine_of machine.new)) }
     ensures budget { OnOk result (machine.new.world.budget ≡ machine.old.world.budget) }
     ensures history { OnOk result (length machine.new.world.history ≡ length machine.old.world.history + 1) }
-    ensures few { OnOk result (length parts.new.items ≡ 64) }
+    ensures few { OnOk result (length parts.new.items ≡ MOST_THREADS) }
     ensures parts { OnOk result (AreParts (threads_of machine.new.world.history) parts.new.items) }
 {
     let clock = machine.world().clock();
@@ -93,7 +92,7 @@ fn finished(
     requires ended { end_of plain.now (machine_of machine.now) machine.now.world.budget ≡ Some end }
     requires begins { end_of plain.now (start_machine plain.now) machine.now.world.budget ≡ None }
     requires within { length machine.now.world.history ≤ machine.now.world.budget }
-    requires few { length parts.items ≡ 64 }
+    requires few { length parts.items ≡ MOST_THREADS }
     requires parts { AreParts (threads_of machine.now.world.history) parts.items }
     ensures recording { IfOk result (λ r. IsRecording plain.now r.log r.output.items r.end) }
     ensures threads { IfOk result (λ r. expansion r.log ≡ threads_of machine.now.world.history) }
@@ -108,41 +107,54 @@ fn finished(
     })
 }
 
-/// The run by the ring without switches, of at most so many events, from 1 to 1,048,576. The first thread goes on as long as
+/// The run by the ring without switches, of at most so many events, from 1 to `MOST_EVENTS`. The first thread goes on as long as
 /// it can, and then the next one round the ring.
 pub fn record_still(alloc: Global, plain: &Plain, events: u64) -> Result<Recording, DriverFault>
     requires some { 1 ≤ events }
-    requires limit { events ≤ 1048576 }
+    requires limit { events ≤ MOST_EVENTS }
     requires begins { end_of plain.now (start_machine plain.now) events ≡ None }
     ensures recording { IfOk result (λ r. IsRecording plain.now r.log r.output.items r.end) }
     ensures threads { IfOk result (λ r. expansion r.log ≡ schedule_threads plain.now [] events) }
     ensures budget { IfOk result (λ r. r.log.budget ≡ events) }
 {
-    match recorded(alloc, plain, events) {
+    match record_schedule(alloc, plain, &[], events) {
         Ok(recording) => Ok(recording),
         Err(_) => Err(DriverFault::NoMemory),
     }
 }
 
-fn recorded(alloc: Global, plain: &Plain, events: u64) -> Result<Recording, NoMemory>
+/// The run of a schedule, of at most so many events, from 1 to 1,048,576. The times are clocks, in any order. Before each
+/// event the current thread, 0 at first, moves on by as many places round the ring of live threads as there are times of that
+/// clock, and then on while the thread there can't go on.
+pub fn record_schedule(
+    alloc: Global,
+    plain: &Plain,
+    times: &[u32],
+    events: u64,
+) -> Result<Recording, NoMemory>
+    requires few { length times.now ≤ 16384 }
     requires some { 1 ≤ events }
-    requires limit { events ≤ 1048576 }
+    requires limit { events ≤ MOST_EVENTS }
     requires begins { end_of plain.now (start_machine plain.now) events ≡ None }
     ensures recording { IfOk result (λ r. IsRecording plain.now r.log r.output.items r.end) }
-    ensures threads { IfOk result (λ r. expansion r.log ≡ schedule_threads plain.now [] events) }
+    ensures threads { IfOk result (λ r. expansion r.log ≡ schedule_threads plain.now times.now events) }
     ensures budget { IfOk result (λ r. r.log.budget ≡ events) }
 {
+    let sorted = in_order(alloc, times)?;
     let mut machine = Machine::new(alloc, plain, events)?;
     let mut parts = foldings(alloc)?;
     let mut thread = 0;
+    let mut passed = 0;
     loop {
         if let Some(end) = machine.end() {
             return finished(alloc, plain, &machine, parts, end);
         }
-        let Some(next) = machine.pick(thread, 0) else {
+        let places = places_at(&sorted[passed..], machine.world().clock());
+        let Some(next) = machine.pick(thread, places) else {
             unreachable!()
         };
         record_event(alloc, plain, &mut machine, &mut parts, next)?;
+        passed += places as usize;
         thread = next;
     }
 }

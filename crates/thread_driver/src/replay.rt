@@ -1,9 +1,9 @@
-ghost use Rattle.std.specs.Prelude.{◌≡◌, ◌≤◌, ◌<◌, ℕ, IfOk, IfErr, Some, None, false, take};
+ghost use Rattle.std.specs.Prelude.{◌≡◌, ◌≤◌, ◌<◌, ℕ, IfOk, IfErr, Some, None, false, length, take};
 ghost use Rattle.machine_model.specs.Machine.{end_of, run};
 ghost use Rattle.schedule_log.specs.Logs.{events, expansion, IsLawful};
 ghost use Rattle.event_machine.specs.MachineView.{machine_of, IsMachineOf};
 ghost use Rattle.thread_driver.specs.Recordings.{IsRecording};
-ghost use Rattle.thread_driver.specs.Answers.{refusal, Refuses};
+ghost use Rattle.thread_driver.specs.Answers.{refusal, Refuses, RefusesBefore};
 
 use crate::record::Recording;
 use event_machine::{Machine, TurnFault};
@@ -77,6 +77,36 @@ fn refusal(fault: TurnFault, clock: u64, thread: u32) -> ReplayFault
     }
 }
 
+/// The machine after the log's first events, so many of them.
+fn turned(
+    alloc: Global,
+    plain: &Plain,
+    log: &Log,
+    threads: &[u32],
+    count: usize,
+) -> Result<Machine, ReplayFault>
+    requires threads { threads.now ≡ expansion log.now }
+    requires lawful { IsLawful log.now }
+    requires within { count ≤ length threads.now }
+    ensures own { IfOk result (IsMachineOf plain.now) }
+    ensures whole { IfOk result (λ m. m.is_broken ≡ false) }
+    ensures budget { IfOk result (λ m. m.world.budget ≡ log.now.budget) }
+    ensures runs { IfOk result (λ m. run plain.now (take count threads.now) ≡ Some (machine_of m)) }
+    ensures err { IfErr result (RefusesBefore plain.now log.now count) }
+{
+    let Ok(mut machine) = Machine::new(alloc, plain, log.budget()) else {
+        return Err(ReplayFault::NoMemory);
+    };
+    for clock in 0..count {
+        let thread = threads[clock];
+        match machine.turn(alloc, plain, thread) {
+            Ok(_) => {}
+            Err(fault) => return Err(refusal(fault, clock as u64, thread)),
+        }
+    }
+    Ok(machine)
+}
+
 /// The run that the log tells, event by event: it repeats that run's events, output and end. `Diverged` comes exactly where
 /// the program doesn't make the log's turns, or ends otherwise.
 pub fn replay_still(alloc: Global, plain: &Plain, log: &Log) -> Result<Recording, ReplayFault>
@@ -87,15 +117,30 @@ pub fn replay_still(alloc: Global, plain: &Plain, log: &Log) -> Result<Recording
     let Ok(threads) = log.expand(alloc) else {
         return Err(ReplayFault::NoMemory);
     };
-    let Ok(mut machine) = Machine::new(alloc, plain, log.budget()) else {
+    let machine = turned(alloc, plain, log, &threads, threads.len())?;
+    repeated(alloc, plain, &machine, log)
+}
+
+/// The machine after the log's first events, up to this clock or to the log's end, whichever comes first. `Diverged` comes
+/// exactly where a turn before is not defined, and names the first one.
+pub fn replay_until(
+    alloc: Global,
+    plain: &Plain,
+    log: &Log,
+    clock: u64,
+) -> Result<Machine, ReplayFault>
+    ensures own { IfOk result (IsMachineOf plain.now) }
+    ensures whole { IfOk result (λ m. m.is_broken ≡ false) }
+    ensures state { IfOk result (λ m. run plain.now (take clock (expansion log.now)) ≡ Some (machine_of m)) }
+    ensures err { IfErr result (RefusesBefore plain.now log.now clock) }
+{
+    let Ok(threads) = log.expand(alloc) else {
         return Err(ReplayFault::NoMemory);
     };
-    for clock in 0..threads.len() {
-        let thread = threads[clock];
-        match machine.turn(alloc, plain, thread) {
-            Ok(_) => {}
-            Err(fault) => return Err(refusal(fault, clock as u64, thread)),
-        }
+    let all = threads.len();
+    if clock < all as u64 {
+        turned(alloc, plain, log, &threads, clock as usize)
+    } else {
+        turned(alloc, plain, log, &threads, all)
     }
-    repeated(alloc, plain, &machine, log)
 }

@@ -85,7 +85,7 @@ take-none : (n : ℕ) → take {A = ℕ} n [] ≡ []
 take-none zero = refl
 take-none (suc n) = refl
 
--- a piece and the piece behind it
+-- a piece and the piece after it
 pub take-split : (xs : List ℕ) (i n : ℕ) → take i xs ++ take n (drop i xs) ≡ take (i + n) xs
 take-split xs zero n = ap (λ k. take k xs) (sym (zero-add n))
 take-split [] (suc i) n =

@@ -11,6 +11,3 @@ pub use folder::{Folder, Load, Store};
 pub use memory::{MemoryFolder, MemorySink};
 pub use real::{DiskFolder, OutSink};
 pub use sink::{Put, Sink, SinkFault, put_all};
-
-#[cfg(test)]
-mod tests;

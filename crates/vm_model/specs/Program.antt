@@ -3,6 +3,7 @@ use Rattle.std.specs.Prelude.{ℕ, ◌+◌, ◌-◌, ◌≤◌, Bool, true, fals
 use Rattle.std.specs.List.{AllByRecursion}
 use Rattle.vm_model.specs.declared.instr.Instr.{Instr}
 use Rattle.vm_model.specs.declared.value.Kind.{Kind}
+use Rattle.vm_model.specs.declared.limits.TheConstants.{FIRST_USER_CLASS, MOST_LOCALS, MOST_TEXT_BYTES}
 use Rattle.vm_model.specs.declared.program.Field.{Field}
 use Rattle.vm_model.specs.declared.program.StaticSlot.{StaticSlot}
 
@@ -42,9 +43,9 @@ code_at (Some m) place = slice_get m.code place
 abbrev pub instr_at : PlainProgram → ℕ → ℕ → Option Instr
 instr_at p method place = code_at (method_at p method) place
 
--- user classes are numbered from 32
+-- user classes have the numbers after those of the built-in ones
 abbrev pub class_in : List PlainClass → ℕ → Option PlainClass
-class_in classes class = if nat_le 32 class then slice_get classes (class - 32) else None
+class_in classes class = if nat_le FIRST_USER_CLASS class then slice_get classes (class - FIRST_USER_CLASS) else None
 
 abbrev pub class_at : PlainProgram → ℕ → Option PlainClass
 class_at p class = class_in p.classes class
@@ -62,8 +63,8 @@ arity_of m = if m.is_static then length m.params else length m.params + 1
 
 -- how many locals a frame has: without a limit as many as a frame may have
 abbrev pub locals_of : PlainMethod → ℕ
-locals_of m = unwrap_or m.max_locals 256
+locals_of m = unwrap_or m.max_locals MOST_LOCALS
 
 -- no method has more instructions than a text of the greatest length can hold
 abbrev pub IsSmall : PlainProgram → Type 0
-IsSmall p = AllByRecursion (λ (m : PlainMethod). length m.code ≤ 1048576) p.methods
+IsSmall p = AllByRecursion (λ (m : PlainMethod). length m.code ≤ MOST_TEXT_BYTES) p.methods

@@ -11,21 +11,21 @@ pub struct Plain {
 
 impl Model for Plain {
     ghost use Rattle.vm_model.specs.Program.{PlainProgram};
-    ghost use Rattle.vm_model.specs.Plain.{IsLinked};
+    ghost use Rattle.vm_model.specs.Plain.{IsWithinBounds};
 
     ghost Value = { PlainProgram };
 
     ghost view = { λ s. s.program };
 
-    ghost invariant = { λ s. IsLinked s.program };
+    ghost invariant = { λ s. IsWithinBounds s.program };
 }
 
 impl Plain {
-    ghost use Rattle.vm_model.specs.Plain.{IsLinked};
+    ghost use Rattle.vm_model.specs.Plain.{IsWithinBounds};
 
     /// The program, as a machine takes it.
     pub fn of(program: Program) -> Plain
-        requires { IsLinked program }
+        requires { IsWithinBounds program }
         ensures { result ≡ program }
     {
         Plain { program }
@@ -34,7 +34,7 @@ impl Plain {
     /// The program itself. It takes no memory.
     pub fn program(&self) -> &Program
         ensures value { result.now ≡ self.now }
-        ensures linked { IsLinked self.now }
+        ensures within_bounds { IsWithinBounds self.now }
     {
         &self.program
     }

@@ -3,6 +3,7 @@ ghost use Rattle.std.specs.Prelude.{◌≡◌};
 ghost use Rattle.std.specs.Option.{option_copied};
 
 use crate::instr::Instr;
+use crate::limits::FIRST_USER_CLASS;
 use crate::name::Name;
 use crate::value::{Kind, Value};
 use std::marker::Model;
@@ -64,7 +65,7 @@ impl Model for Method {
     ghost view = { λ m. record { class = m.class; name = m.name; params = m.params.items; gives = m.gives; is_static = m.is_static; is_synchronized = m.is_synchronized; max_stack = m.max_stack; max_locals = m.max_locals; code = m.code.items } };
 }
 
-/// A linked program. Classes 0 to 22 are built in; class 32 + i is item i of `classes`. `main` is the number of the method
+/// A linked program. Classes 0 to 22 are built in; class `FIRST_USER_CLASS` + i is item i of `classes`. `main` is the number of the method
 /// that the first thread begins with.
 #[derive(Debug, Drop)]
 pub struct Program {
@@ -107,10 +108,10 @@ impl Program {
     pub fn class(&self, class: u32) -> Option<&Class>
         ensures { option_copied result ≡ class_at self.now class }
     {
-        if class < 32 {
+        if class < FIRST_USER_CLASS {
             None
         } else {
-            self.classes.get(class as usize - 32)
+            self.classes.get((class - FIRST_USER_CLASS) as usize)
         }
     }
 

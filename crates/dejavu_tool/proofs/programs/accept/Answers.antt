@@ -5,7 +5,7 @@ use Rattle.dejavu_tool.proofs.Linked.{begins, is_linked}
 use Rattle.dejavu_tool.proofs.programs.accept.Goals as goal
 
 pub verify-requires : goal.verify-requires
-verify-requires c = record { linked = is_linked c.args.text.now c.in_ok-program.program c.in_ok-program.ensures.gives }
+verify-requires c = record { within_bounds = is_linked c.args.text.now c.in_ok-program.program c.in_ok-program.ensures.gives }
 
 pub returns-in-Ok-clause-begins : goal.returns-in-Ok-clause-begins
 returns-in-Ok-clause-begins c =

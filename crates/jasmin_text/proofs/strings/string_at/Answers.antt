@@ -1,10 +1,10 @@
 use Rattle.std.proofs.Common.{sym, ◌∙◌, ap, false, arith, Ok}
-use Rattle.jasmin_text.specs.Pieces.{string_behind}
+use Rattle.jasmin_text.specs.Pieces.{string_after}
 use Rattle.jasmin_text.proofs.Quoted.{closed, opened, extended, spoilt, left_open, from_none}
 use Rattle.jasmin_text.proofs.strings.string_at.Goals as goal
 
 pub loop-rest-init : goal.loop-rest-init
-loop-rest-init c = record { so_far = rw c.new-text.ensures.items (from_none (string_behind false 1 c.args.bytes.now)); place = omega arith; positive = omega arith }
+loop-rest-init c = record { so_far = rw c.new-text.ensures.items (from_none (string_after false 1 c.args.bytes.now)); place = omega arith; positive = omega arith }
 
 pub returns-in-Ok-End : goal.returns-in-Ok-End
 returns-in-Ok-End c = sym c.loop-rest.invariant.so_far ∙ closed c.loop-rest.text.items c.loop-rest.is_escape c.loop-rest.passed c.loop-rest.rest.now c.in-len1-up.len_at_least (sym c.turn_of.ensures ∙ c.in-Ok-End.is ∙ ap Ok c.in-Ok-End.field-0-is)

@@ -1,6 +1,6 @@
 use Rattle.std.proofs.Common.{Ok, refl, sym, ◌∙◌, ap, arith, nat_eq, true, subst}
 use Rattle.jasmin_text.specs.Places.{first_place}
-use Rattle.jasmin_text.specs.Texts.{tokens_of, tokens_behind, left_of_line, Refuses}
+use Rattle.jasmin_text.specs.Texts.{tokens_of, tokens_after, left_of_line, Refuses}
 use Rattle.std.proofs.lemmas.List.{take_rest}
 use Rattle.std.proofs.lemmas.Result.{err_from_is_err_and}
 use Rattle.jasmin_text.proofs.Quoted.{behind}
@@ -11,7 +11,7 @@ use Rattle.jasmin_text.proofs.text.cut.Goals as goal
 
 pub loop-rest-init : goal.loop-rest-init
 unfolding tokens_of
-loop-rest-init c = record { so_far = rw (c.new-found.ensures.items, c.first-place.ensures) (front-none (tokens_behind 0 true first_place c.args.text.now)); offset = rw c.first-place.ensures (omega arith); line = rw c.first-place.ensures (omega arith); column = rw c.first-place.ensures (omega arith) }
+loop-rest-init c = record { so_far = rw (c.new-found.ensures.items, c.first-place.ensures) (front-none (tokens_after 0 true first_place c.args.text.now)); offset = rw c.first-place.ensures (omega arith); line = rw c.first-place.ensures (omega arith); column = rw c.first-place.ensures (omega arith) }
 
 pub loop-rest-preserved-then-b-eq10 : goal.loop-rest-preserved-then-b-eq10
 loop-rest-preserved-then-b-eq10 c = record { so_far = rw (c.in_ok-push.ensures.items, c.line_end.ensures, c.next_line-place.ensures) (line-ended c.loop-rest.found.items c.loop-rest.is_open c.loop-rest.place c.loop-rest.rest.now c.in-len1-up.len_at_least c.if-b-eq10.true) ∙ c.loop-rest.invariant.so_far; offset = rw c.next_line-place.ensures (omega (arith, c.in-len1-up.len_at_least, c.loop-rest.invariant.offset)); line = rw c.next_line-place.ensures (omega (arith, c.loop-rest.invariant.line)); column = rw c.next_line-place.ensures (omega (arith, c.loop-rest.invariant.column)) }

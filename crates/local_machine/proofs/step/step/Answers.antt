@@ -8,8 +8,8 @@ use Rattle.local_machine.specs.Fields.{callers, frames_of}
 use Rattle.local_machine.proofs.Moved.{length-callers, none_of, moved-deep, moved-call, moved-none}
 use Rattle.local_machine.proofs.step.step.Goals as goal
 
-pub returns-then-len-ge255-clause-ok : goal.returns-then-len-ge255-clause-ok
-returns-then-len-ge255-clause-ok c =
+pub returns-then-len-clause-ok : goal.returns-then-len-clause-ok
+returns-then-len-clause-ok c =
     let p = c.args.program.now in
     let f = plain c.reserve.new.self in
     let g = plain c.act_at_place-acted.new.frame in

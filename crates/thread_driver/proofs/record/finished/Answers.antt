@@ -1,4 +1,4 @@
-use Rattle.std.proofs.Common.{◌≡◌, ◌≤◌, ℕ, ap, sym, ◌∙◌, arith}
+use Rattle.std.proofs.Common.{◌≡◌, ℕ, ap, ◌∙◌, arith}
 use Rattle.machine_model.specs.Machine.{threads_of}
 use Rattle.schedule_log.specs.Logs.{expansion}
 use Rattle.schedule_log.specs.Parts.{log_of_parts}

@@ -1,5 +1,4 @@
-use Rattle.std.proofs.Common.{rules, ◌≡◌, ℕ, Some, ap, subst, sym, ◌∙◌}
-use Rattle.vm_model.specs.Ends.{kind_of_end}
+use Rattle.std.proofs.Common.{rules, ℕ, ap, subst, sym, ◌∙◌}
 use Rattle.machine_model.specs.Machine.{end_of, run}
 use Rattle.schedule_log.specs.Logs.{PlainLog, IsLawful, expansion}
 use Rattle.shared_world.specs.Worlds.{WorldState}

@@ -1,0 +1,196 @@
+//! The clap command of each first word.
+
+ghost use Rattle.std.specs.Prelude.{◌≡◌, IfOk, option_map};
+ghost use Rattle.clap.specs.Words.{app_of};
+ghost use Rattle.command_line.specs.Commands as spec;
+ghost use Rattle.command_line.specs.Words.{plain_word};
+
+use clap::builder::ValueParser;
+use clap::{Arg, Command};
+use std::alloc::{AllocError, Global};
+
+/// The first words of the commands.
+#[derive(Clone, Copy)]
+pub(crate) enum Word {
+    Check,
+    Record,
+    Replay,
+    Show,
+    Derive,
+    Run,
+    Seek,
+    Isolate,
+    Drill,
+}
+
+/// A command that has no arguments yet, and no help flag.
+fn bare<'a>(alloc: Global, word: &'a str) -> Command<'a>
+    ensures { app_of result ≡ spec.bare word.entry.now }
+{
+    Command::new(alloc, word).disable_help_flag(true)
+}
+
+fn with_text<'a>(
+    command: Command<'a>,
+    alloc: Global,
+    id: &'a str,
+) -> Result<Command<'a>, AllocError>
+    ensures { IfOk result (λ c. app_of c ≡ spec.with_text id.entry.now (app_of command.entry)) }
+{
+    command.arg(Arg::new(alloc, id).required(true))
+}
+
+fn with_number<'a>(
+    command: Command<'a>,
+    alloc: Global,
+    id: &'a str,
+    least: u64,
+    most: u64,
+) -> Result<Command<'a>, AllocError>
+    ensures { IfOk result (λ c. app_of c ≡ spec.with_number id.entry.now least most (app_of command.entry)) }
+{
+    let arg = Arg::new(alloc, id)
+        .required(true)
+        .value_parser(ValueParser::Unsigned(least, most));
+    command.arg(arg)
+}
+
+fn with_option<'a>(
+    command: Command<'a>,
+    alloc: Global,
+    id: &'a str,
+    least: u64,
+    most: u64,
+    default: &'a str,
+) -> Result<Command<'a>, AllocError>
+    ensures { IfOk result (λ c. app_of c ≡ spec.with_option id.entry.now least most default.entry.now (app_of command.entry)) }
+{
+    let arg = Arg::new(alloc, id)
+        .long(id)
+        .value_parser(ValueParser::Unsigned(least, most))
+        .default_value(default);
+    command.arg(arg)
+}
+
+fn with_events<'a>(command: Command<'a>, alloc: Global) -> Result<Command<'a>, AllocError>
+    ensures { IfOk result (λ c. app_of c ≡ spec.with_events (app_of command.entry)) }
+{
+    with_option(command, alloc, "events", 1, 1_048_576, "1048576")
+}
+
+#[tactic(auto, unfolding(crate::specs::Commands::check_app))]
+fn check<'a>(alloc: Global) -> Result<Command<'a>, AllocError>
+    ensures { IfOk result (λ c. app_of c ≡ spec.check_app) }
+{
+    with_text(bare(alloc, "check"), alloc, "P")
+}
+
+#[tactic(auto, unfolding(crate::specs::Commands::replay_app))]
+fn replay<'a>(alloc: Global) -> Result<Command<'a>, AllocError>
+    ensures { IfOk result (λ c. app_of c ≡ spec.replay_app) }
+{
+    let command = with_text(bare(alloc, "replay"), alloc, "P")?;
+    with_text(command, alloc, "LOG")
+}
+
+#[tactic(auto, unfolding(crate::specs::Commands::record_app))]
+fn record<'a>(alloc: Global) -> Result<Command<'a>, AllocError>
+    ensures { IfOk result (λ c. app_of c ≡ spec.record_app) }
+{
+    let command = with_text(bare(alloc, "record"), alloc, "P")?;
+    let command = with_text(command, alloc, "LOG")?;
+    with_events(command, alloc)
+}
+
+#[tactic(auto, unfolding(crate::specs::Commands::show_app))]
+fn show<'a>(alloc: Global) -> Result<Command<'a>, AllocError>
+    ensures { IfOk result (λ c. app_of c ≡ spec.show_app) }
+{
+    let command = with_text(bare(alloc, "show"), alloc, "P")?;
+    let command = with_text(command, alloc, "LOG")?;
+    with_number(command, alloc, "CLOCK", 0, 1_048_576)
+}
+
+#[tactic(auto, unfolding(crate::specs::Commands::derive_app))]
+fn derive<'a>(alloc: Global) -> Result<Command<'a>, AllocError>
+    ensures { IfOk result (λ c. app_of c ≡ spec.derive_app) }
+{
+    let command = with_text(bare(alloc, "derive"), alloc, "P")?;
+    let command = with_text(command, alloc, "LOG")?;
+    with_text(command, alloc, "SCHED")
+}
+
+#[tactic(auto, unfolding(crate::specs::Commands::run_app))]
+fn run<'a>(alloc: Global) -> Result<Command<'a>, AllocError>
+    ensures { IfOk result (λ c. app_of c ≡ spec.run_app) }
+{
+    let command = with_text(bare(alloc, "run"), alloc, "P")?;
+    let command = with_text(command, alloc, "SCHED")?;
+    with_events(command, alloc)
+}
+
+#[tactic(auto, unfolding(crate::specs::Commands::seek_app))]
+fn seek<'a>(alloc: Global) -> Result<Command<'a>, AllocError>
+    ensures { IfOk result (λ c. app_of c ≡ spec.seek_app) }
+{
+    let command = with_text(bare(alloc, "seek"), alloc, "P")?;
+    let command = with_number(command, alloc, "SEED", 0, u64::MAX)?;
+    let command = with_number(command, alloc, "TRIES", 1, 65_536)?;
+    let command = with_text(command, alloc, "SCHED")?;
+    with_events(command, alloc)
+}
+
+#[tactic(auto, unfolding(crate::specs::Commands::isolate_app))]
+fn isolate<'a>(alloc: Global) -> Result<Command<'a>, AllocError>
+    ensures { IfOk result (λ c. app_of c ≡ spec.isolate_app) }
+{
+    let command = with_text(bare(alloc, "isolate"), alloc, "P")?;
+    let command = with_text(command, alloc, "PASS")?;
+    let command = with_text(command, alloc, "FAIL")?;
+    let command = with_option(command, alloc, "tests", 1, 1_099_511_627_776, "1048576")?;
+    let command = with_option(command, alloc, "workers", 1, 16, "1")?;
+    with_events(command, alloc)
+}
+
+#[tactic(auto, unfolding(crate::specs::Commands::drill_app))]
+fn drill<'a>(alloc: Global) -> Result<Command<'a>, AllocError>
+    ensures { IfOk result (λ c. app_of c ≡ spec.drill_app) }
+{
+    let command = with_number(bare(alloc, "drill"), alloc, "K", 1, 60)?;
+    with_text(command, alloc, "P")
+}
+
+/// The command that reads the words after this first one.
+pub(crate) fn app_for<'a>(alloc: Global, word: Word) -> Result<Command<'a>, AllocError>
+    ensures { IfOk result (λ c. app_of c ≡ spec.app_of_word (plain_word word)) }
+{
+    match word {
+        Word::Check => check(alloc),
+        Word::Record => record(alloc),
+        Word::Replay => replay(alloc),
+        Word::Show => show(alloc),
+        Word::Derive => derive(alloc),
+        Word::Run => run(alloc),
+        Word::Seek => seek(alloc),
+        Word::Isolate => isolate(alloc),
+        Word::Drill => drill(alloc),
+    }
+}
+
+/// The command of a first word, if it is one.
+pub(crate) fn word_in(first: &str) -> Option<Word>
+    ensures { option_map plain_word result ≡ spec.word_of first.now }
+{
+    match first {
+        "check" => Some(Word::Check),
+        "record" => Some(Word::Record),
+        "replay" => Some(Word::Replay),
+        "show" => Some(Word::Show),
+        "derive" => Some(Word::Derive),
+        "run" => Some(Word::Run),
+        "seek" => Some(Word::Seek),
+        "isolate" => Some(Word::Isolate),
+        "drill" => Some(Word::Drill),
+        _ => None,
+    }
+}

@@ -1,0 +1,16 @@
+pub mod Shifting
+pub mod Single
+pub mod Parts
+pub mod Finding
+pub mod Testing
+pub mod Falling
+pub mod Searching
+pub mod Keeping
+pub mod Minimal
+pub mod Bounds
+pub mod Halving
+pub mod Stating
+pub mod Asking
+pub mod Deciding
+pub mod Padding
+pub mod Going

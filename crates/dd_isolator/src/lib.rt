@@ -1,0 +1,15 @@
+//! Isolation of a failure between a passing and a failing schedule, by delta debugging on the shifts of single switch times.
+#![tactic(auto)]
+
+mod fault;
+pub mod laws;
+mod round;
+mod search;
+mod shifts;
+mod state;
+
+pub use fault::IsolateFault;
+pub use search::isolate;
+
+#[cfg(test)]
+mod tests;

@@ -1,0 +1,124 @@
+//! A round of tests: the first resolved one decides.
+
+ghost use Rattle.std.specs.Prelude.{◌≡◌, ◌≤◌, ◌<◌, ◌+◌, ◌^◌, length, map, All, IfOk, IfErr, OnOk};
+ghost use Rattle.std.specs.List.{range_with_len};
+ghost use Rattle.schedule_model.specs.Outcomes.{unresolved_among};
+ghost use Rattle.dd_isolator.specs.Rounds.{follower, made, round_of, round_size, test};
+ghost use Rattle.dd_isolator.specs.Answers.{Counts, Decides, HasSpent, IsFirstOf, IsSpent};
+
+use crate::fault::IsolateFault;
+use crate::state::SearchState;
+use schedule_model::{Found, Outcome, Rounds, Schedule};
+use std::alloc::Global;
+use vm_model::NoMemory;
+
+/// The first resolved test of a round, by its place in the round, and its outcome.
+#[derive(Clone, Copy)]
+pub(crate) struct Decision {
+    pub place: u64,
+    pub outcome: Outcome,
+}
+
+/// So many tests of a round, from one on.
+fn batch(
+    alloc: Global,
+    state: &SearchState,
+    from: u64,
+    count: u64,
+) -> Result<Vec<Schedule>, NoMemory>
+    requires within { from + count ≤ round_size state.now }
+    requires few { from + count < 2 ^ 64 }
+    ensures tests { IfOk result (λ tests. tests.items ≡ map (λ i. (test state.now i).times) (range_with_len from count)) }
+    ensures sizes { IfOk result (λ tests. All (λ test. length test ≤ 16384) tests.items) }
+{
+    let end = from + count;
+    let mut tests = Vec::new(alloc);
+    for i in from..end {
+        let times = state.test(alloc, i)?;
+        tests.push(Schedule { times })?;
+    }
+    Ok(tests)
+}
+
+/// The first resolved one of so many tests of a round, from one on.
+fn ask<R: Rounds>(
+    alloc: Global,
+    state: &SearchState,
+    from: u64,
+    count: u64,
+    rounds: &mut R,
+) -> Result<Option<Decision>, NoMemory>
+    requires within { from + count ≤ round_size state.now }
+    requires few { count ≤ 64 }
+    requires size { from + count < 2 ^ 64 }
+    requires room { R.asked rounds.old + count < 2 ^ 64 }
+    ensures first { IfOk result (IsFirstOf (R.outcome rounds.old) state.now from count) }
+    ensures counts { IfOk result (λ found. Counts from count found (R.asked rounds.old) (R.asked rounds.new) (R.unresolved rounds.old) (R.unresolved rounds.new)) }
+    ensures outcome { R.outcome rounds.new ≡ R.outcome rounds.old }
+    ensures events { R.events rounds.new ≡ R.events rounds.old }
+{
+    let tests = batch(alloc, state, from, count)?;
+    match rounds.first_resolved(alloc, tests.as_slice())? {
+        Found::Resolved { at, outcome } => Ok(Some(Decision {
+            place: from + u64::from(at),
+            outcome,
+        })),
+        Found::NoneResolved => Ok(None),
+    }
+}
+
+/// The first resolved test of a round, asked for in batches of at most 64, while the budget lasts.
+fn first_resolved<R: Rounds>(
+    alloc: Global,
+    state: &SearchState,
+    budget: u64,
+    rounds: &mut R,
+) -> Result<Option<Decision>, IsolateFault>
+    requires { R.asked rounds.old ≤ budget }
+    ensures decides { IfOk result (Decides (R.outcome rounds.old) state.now) }
+    ensures asked { OnOk result (R.asked rounds.new ≡ R.asked rounds.old + length (made (R.outcome rounds.old) (round_of state.now))) }
+    ensures unresolved { OnOk result (R.unresolved rounds.new ≡ R.unresolved rounds.old + unresolved_among (R.outcome rounds.old) (made (R.outcome rounds.old) (round_of state.now))) }
+    ensures within { OnOk result (R.asked rounds.new ≤ budget) }
+    ensures spent { IfErr result (IsSpent budget (R.asked rounds.old + length (made (R.outcome rounds.old) (round_of state.now)))) }
+    ensures all_made { IfErr result (HasSpent budget (R.asked rounds.new)) }
+    ensures outcome { R.outcome rounds.new ≡ R.outcome rounds.old }
+    ensures events { R.events rounds.new ≡ R.events rounds.old }
+{
+    let size = state.round_size();
+    let mut done = 0;
+    while done < size {
+        let left = budget - rounds.asked();
+        if left == 0 {
+            return Err(IsolateFault::TestsSpent { asked: budget });
+        }
+        let count = left.min(size - done).min(64);
+        match ask(alloc, state, done, count, rounds)? {
+            Some(decision) => return Ok(Some(decision)),
+            None => done += count,
+        }
+    }
+    Ok(None)
+}
+
+/// The state that follows, if one does.
+pub(crate) fn follower<R: Rounds>(
+    alloc: Global,
+    state: &SearchState,
+    budget: u64,
+    rounds: &mut R,
+) -> Result<Option<SearchState>, IsolateFault>
+    requires { R.asked rounds.old ≤ budget }
+    ensures next { IfOk result (λ next. next ≡ follower (R.outcome rounds.old) state.now) }
+    ensures asked { OnOk result (R.asked rounds.new ≡ R.asked rounds.old + length (made (R.outcome rounds.old) (round_of state.now))) }
+    ensures unresolved { OnOk result (R.unresolved rounds.new ≡ R.unresolved rounds.old + unresolved_among (R.outcome rounds.old) (made (R.outcome rounds.old) (round_of state.now))) }
+    ensures within { OnOk result (R.asked rounds.new ≤ budget) }
+    ensures spent { IfErr result (IsSpent budget (R.asked rounds.old + length (made (R.outcome rounds.old) (round_of state.now)))) }
+    ensures all_made { IfErr result (HasSpent budget (R.asked rounds.new)) }
+    ensures outcome { R.outcome rounds.new ≡ R.outcome rounds.old }
+    ensures events { R.events rounds.new ≡ R.events rounds.old }
+{
+    match first_resolved(alloc, state, budget, rounds)? {
+        Some(decision) => Ok(Some(state.after(alloc, decision.place, decision.outcome)?)),
+        None => Ok(state.refined(alloc)?),
+    }
+}

@@ -1,6 +1,0 @@
-use Rattle.event_machine.specs.MachineView.{IsMachineOf}
-use Rattle.dejavu_tool.proofs.tests.go_on.Given as goal
-
--- the machine stays one of the program
-abbrev pub invariant-loop-thread : goal.invariant-loop-thread
-invariant-loop-thread l = IsMachineOf l.plain l.machine

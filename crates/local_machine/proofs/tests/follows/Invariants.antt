@@ -1,5 +1,0 @@
-use Rattle.local_machine.specs.LocalView.{IsReady}
-use Rattle.local_machine.proofs.tests.follows.Given as goal
-
-abbrev pub invariant-loop-reply : goal.invariant-loop-reply
-invariant-loop-reply l = IsReady l.plain l.local

@@ -1,0 +1,5 @@
+pub mod Memos
+pub mod MemoView
+pub mod Rounds
+pub mod SerialView
+pub mod WideView

@@ -1,0 +1,179 @@
+//! Rounds of tests on one thread.
+
+ghost use Rattle.std.specs.Prelude.{IsPermutation};
+ghost use Rattle.outcome_test.specs.Memos.{Remembers};
+ghost use Rattle.std.specs.Prelude.{◌≡◌, ◌≤◌, ◌<◌, ◌+◌, ◌^◌, None, length, All, IfOk};
+ghost use Rattle.vm_model.specs.declared.ends.Fault.{Fault};
+ghost use Rattle.machine_model.specs.Machine.{end_of, start_machine};
+ghost use Rattle.schedule_model.specs.Finds.{IsFirstResolved};
+ghost use Rattle.schedule_model.specs.Outcomes.{outcome_of};
+ghost use Rattle.switch_schedule.proofs.Alike.{reads_counts};
+ghost use Rattle.outcome_test.specs.Rounds.{counted};
+
+use crate::judging::outcome_of;
+use crate::memo::Memo;
+use schedule_model::{Found, Outcome, Rounds, Schedule};
+use std::alloc::Global;
+use std::marker::Model;
+use vm_model::{Fault, NoMemory, Plain};
+
+/// Rounds on one thread of the tool's own: tests are run in order, up to the first resolved one. What a test showed is
+/// remembered, of at most 4,096 tests with at most 4,194,304 times in all, and no such test is run again.
+#[derive(Drop)]
+pub struct SerialRounds<'a> {
+    plain: &'a Plain,
+    fault: Fault,
+    events: u64,
+    memo: Memo,
+    resolved: u64,
+    unresolved: u64,
+}
+
+impl<'a> Model for SerialRounds<'a> {
+    ghost use Rattle.outcome_test.specs.Rounds.{RoundsState};
+    ghost use Rattle.outcome_test.specs.SerialView.{view_of, IsKept};
+
+    ghost Value = { RoundsState };
+
+    ghost view = { view_of };
+
+    ghost invariant = { IsKept };
+}
+
+impl<'a> SerialRounds<'a> {
+    /// Rounds that have asked nothing yet, of runs of a program from its start. `fault` is what a run has to end in to fail;
+    /// `events`, from 1 to 1,048,576, is how many events it may make.
+    pub fn new(
+        alloc: Global,
+        plain: &'a Plain,
+        fault: Fault,
+        events: u64,
+    ) -> Result<SerialRounds<'a>, NoMemory>
+        requires some { 1 ≤ events }
+        requires limit { events ≤ 1048576 }
+        requires begins { end_of plain.now (start_machine plain.now) events ≡ None }
+        ensures { IfOk result (λ rounds. rounds ≡ record { program = plain.now; fault = fault; events = events; resolved = 0; unresolved = 0 }) }
+    {
+        Ok(SerialRounds {
+            plain,
+            fault,
+            events,
+            memo: Memo::new(alloc),
+            resolved: 0,
+            unresolved: 0,
+        })
+    }
+}
+
+/// Times in rising order.
+fn in_order(alloc: Global, times: &[u32]) -> Result<Vec<u32>, NoMemory>
+    ensures { IfOk result (λ sorted. IsPermutation times.now sorted.items) }
+{
+    let mut sorted = Vec::from_slice(alloc, times)?;
+    sorted.sort_unstable();
+    Ok(sorted)
+}
+
+/// What a test shows: as it is remembered, or else by its run from the start of the program.
+fn shown(
+    alloc: Global,
+    plain: &Plain,
+    fault: &Fault,
+    events: u64,
+    memo: &mut Memo,
+    test: &Schedule,
+) -> Result<Outcome, NoMemory>
+    requires few { length test.now ≤ 16384 }
+    requires some { 1 ≤ events }
+    requires limit { events ≤ 1048576 }
+    requires begins { end_of plain.now (start_machine plain.now) events ≡ None }
+    requires remembers { Remembers (outcome_of plain.now events fault.now) memo.old }
+    ensures shows { IfOk result (λ o. outcome_of plain.now events fault.now test.now ≡ o) }
+    ensures remembers { Remembers (outcome_of plain.now events fault.now) memo.new }
+{
+    let sorted = in_order(alloc, &test.times)?;
+    if let Some(shown) = memo.shown(sorted.as_slice()) {
+        return Ok(shown);
+    }
+    let shown = outcome_of(alloc, plain, fault, events, test)?;
+    memo.remember(sorted, shown)?;
+    Ok(shown)
+}
+
+/// The first resolved one of some tests.
+fn first_of(
+    alloc: Global,
+    plain: &Plain,
+    fault: &Fault,
+    events: u64,
+    memo: &mut Memo,
+    tests: &[Schedule],
+) -> Result<Found, NoMemory>
+    requires few { length tests.now < 2 ^ 32 }
+    requires sizes { All (λ test. length test ≤ 16384) tests.now }
+    requires some { 1 ≤ events }
+    requires limit { events ≤ 1048576 }
+    requires begins { end_of plain.now (start_machine plain.now) events ≡ None }
+    requires remembers { Remembers (outcome_of plain.now events fault.now) memo.old }
+    ensures first { IfOk result (IsFirstResolved (outcome_of plain.now events fault.now) tests.now) }
+    ensures remembers { Remembers (outcome_of plain.now events fault.now) memo.new }
+{
+    for i in 0..tests.len() {
+        let outcome = shown(alloc, plain, fault, events, memo, &tests[i])?;
+        match outcome {
+            Outcome::Pass => return Ok(Found::Resolved {
+                at: i as u32,
+                outcome,
+            }),
+            Outcome::Fail => return Ok(Found::Resolved {
+                at: i as u32,
+                outcome,
+            }),
+            Outcome::Unresolved => {}
+        }
+    }
+    Ok(Found::NoneResolved)
+}
+
+impl<'a> Rounds for SerialRounds<'a> {
+    ghost outcome = { λ s. outcome_of s.program s.events s.fault };
+
+    ghost events = { λ s. s.events };
+
+    ghost asked = { λ s. s.resolved + s.unresolved };
+
+    ghost unresolved = { λ s. s.unresolved };
+
+    ghost reads_counts = { λ s. reads_counts s.program s.events s.fault };
+
+    ghost unresolved_counted = { λ s. counted s.resolved s.unresolved };
+
+    fn first_resolved(&mut self, alloc: Global, tests: &[Schedule]) -> Result<Found, NoMemory> {
+        let found = first_of(
+            alloc,
+            self.plain,
+            &self.fault,
+            self.events,
+            &mut self.memo,
+            tests,
+        )?;
+        match found {
+            Found::Resolved { at, outcome: _ } => {
+                self.resolved += 1;
+                self.unresolved += u64::from(at);
+            }
+            Found::NoneResolved => {
+                self.unresolved += tests.len() as u64;
+            }
+        }
+        Ok(found)
+    }
+
+    fn asked(&self) -> u64 {
+        self.resolved + self.unresolved
+    }
+
+    fn unresolved(&self) -> u64 {
+        self.unresolved
+    }
+}

@@ -1,0 +1,11 @@
+//! What makes the difference between a run of a program that passes and one that fails.
+#![tactic(auto)]
+
+mod program;
+mod refusal;
+
+pub use program::isolate_program;
+pub use refusal::IsolationRefusal;
+
+#[cfg(test)]
+mod tests;

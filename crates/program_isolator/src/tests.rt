@@ -1,0 +1,308 @@
+//! Two threads that each add 1 to a static with no lock, and are joined; then an `Error` is thrown where the static isn't 2.
+//! With a switch before event 5 an addition is lost.
+
+ghost use Rattle.std.specs.Prelude.{◌≡◌, ◌≤◌, None, All, IsTrue, IfOk, length};
+ghost use Rattle.machine_model.specs.Machine.{end_of, start_machine};
+
+use crate::{IsolationRefusal, isolate_program};
+use event_machine::Machine;
+use outcome_test::{SerialRounds, WideRounds};
+use schedule_model::{Found, Isolated, Outcome, Rounds, Schedule};
+use std::alloc::Global;
+use std::test::Fail;
+use std::thread::Threads;
+use vm_model::{
+    Class, End, Fault, FaultKind, Instr, Kind, Method, Name, NoMemory, Plain, Program, StaticSlot,
+    Value,
+};
+
+const MAIN: [Instr; 24] = [
+    Instr::New(32),
+    Instr::Dup,
+    Instr::InvokeSpecial(1),
+    Instr::Astore(1),
+    Instr::New(32),
+    Instr::Dup,
+    Instr::InvokeSpecial(1),
+    Instr::Astore(2),
+    Instr::Aload(1),
+    Instr::Start,
+    Instr::Aload(2),
+    Instr::Start,
+    Instr::Aload(1),
+    Instr::Join,
+    Instr::Aload(2),
+    Instr::Join,
+    Instr::GetStatic(0),
+    Instr::Push(2),
+    Instr::IfIcmpeq(23),
+    Instr::New(8),
+    Instr::Dup,
+    Instr::Init {
+        class: 8,
+        text: false,
+    },
+    Instr::Athrow,
+    Instr::Return,
+];
+
+const INIT: [Instr; 3] = [
+    Instr::Aload(0),
+    Instr::Init {
+        class: 1,
+        text: false,
+    },
+    Instr::Return,
+];
+
+const RUN: [Instr; 5] = [
+    Instr::GetStatic(0),
+    Instr::Push(1),
+    Instr::Iadd,
+    Instr::PutStatic(0),
+    Instr::Return,
+];
+
+/// The fault of a run that lost an addition.
+const LOST: Fault = Fault {
+    kind: FaultKind::Thrown(8),
+    thread: 0,
+    method: 0,
+    at: 22,
+};
+
+fn method_of(
+    alloc: Global,
+    name: &[u8],
+    params: &[Kind],
+    is_static: bool,
+    code: &[Instr],
+) -> Result<Method, NoMemory>
+    requires { length code.now ≤ 64 }
+    ensures { IfOk result (λ m. length m.code ≤ 64) }
+{
+    Ok(Method {
+        class: 32,
+        name: Name::of(alloc, name)?,
+        params: Vec::from_slice(alloc, params)?,
+        gives: None,
+        is_static,
+        is_synchronized: false,
+        max_stack: None,
+        max_locals: None,
+        code: Vec::from_slice(alloc, code)?,
+    })
+}
+
+fn two_writers(alloc: Global) -> Result<Plain, NoMemory> {
+    let mut methods = Vec::new(alloc);
+    methods.push(method_of(alloc, b"main", &[Kind::Args], true, &MAIN)?)?;
+    methods.push(method_of(alloc, b"<init>", &[], false, &INIT)?)?;
+    methods.push(method_of(alloc, b"run", &[], false, &RUN)?)?;
+    let mut classes = Vec::new(alloc);
+    classes.push(Class {
+        name: Name::of(alloc, b"W")?,
+        is_thread: true,
+        is_runnable: false,
+        fields: Vec::new(alloc),
+        run: Some(2),
+    })?;
+    let mut statics = Vec::new(alloc);
+    statics.push(static_of(alloc)?)?;
+    Ok(Plain::of(Program {
+        classes,
+        methods,
+        statics,
+        texts: Vec::new(alloc),
+        main: 0,
+    }))
+}
+
+fn static_of(alloc: Global) -> Result<StaticSlot, NoMemory> {
+    Ok(StaticSlot {
+        class: 32,
+        name: Name::of(alloc, b"n")?,
+        kind: Kind::Int,
+        start: Value::Int(0),
+    })
+}
+
+fn schedule(alloc: Global, times: &[u32]) -> Result<Schedule, NoMemory>
+    requires { length times.now ≤ 8 }
+    ensures { IfOk result (λ s. length s ≤ 8) }
+{
+    Ok(Schedule {
+        times: Vec::from_slice(alloc, times)?,
+    })
+}
+
+/// The program makes an event under this budget.
+fn begins(alloc: Global, plain: &Plain, events: u64) -> Result<bool, NoMemory>
+    requires some { 1 ≤ events }
+    requires limit { events ≤ 1048576 }
+    ensures { IfOk result (λ b. IsTrue b → end_of plain.now (start_machine plain.now) events ≡ None) }
+{
+    let machine = Machine::new(alloc, plain, events)?;
+    Ok(machine.end().is_none())
+}
+
+/// What is isolated between two schedules.
+fn isolated<H: Threads + Sync>(
+    rt: &H,
+    alloc: Global,
+    times: (&[u32], &[u32]),
+    events: u64,
+    budget: u64,
+    workers: u32,
+) -> Result<Isolated, IsolationRefusal>
+    requires some { 1 ≤ events }
+    requires limit { events ≤ 1048576 }
+    requires pass { length times.0.now ≤ 8 }
+    requires fail { length times.1.now ≤ 8 }
+{
+    let plain = two_writers(alloc)?;
+    let pass = schedule(alloc, times.0)?;
+    let fail = schedule(alloc, times.1)?;
+    if begins(alloc, &plain, events)? {
+        isolate_program(rt, alloc, &plain, &pass, &fail, events, budget, workers)
+    } else {
+        Err(IsolationRefusal::NoMemory)
+    }
+}
+
+/// Whether [6] and [5] are found, after so many tests.
+fn finds<H: Threads + Sync>(
+    rt: &H,
+    alloc: Global,
+    pass: &[u32],
+    events: u64,
+    workers: u32,
+    asked: u64,
+) -> bool
+    requires some { 1 ≤ events }
+    requires limit { events ≤ 1048576 }
+    requires few { length pass.now ≤ 8 }
+{
+    match isolated(rt, alloc, (pass, &[5]), events, asked, workers) {
+        Ok(found) => {
+            found.pass.times.as_slice() == [6].as_slice()
+                && found.fail.times.as_slice() == [5].as_slice()
+                && found.units == 1
+                && found.asked == asked
+                && found.unresolved == 0
+        }
+        Err(_) => false,
+    }
+}
+
+// [9] and [5] are 4 units apart, and [7] and [6] are tested. Of 20 events the empty schedule is padded to [20], which is 15
+// units from [5], and [13], [9], [7] and [6] are tested. [6] and [5] are one unit apart, and nothing is tested.
+#[test]
+fn one_switch_is_found(rt: HostRuntime) -> Result<(), Fail> {
+    let alloc = rt.alloc();
+    for workers in [1, 2, 16] {
+        assert!(rt; finds(&rt, alloc, &[9], 1048576, workers, 2));
+        assert!(rt; finds(&rt, alloc, &[], 20, workers, 4));
+        assert!(rt; finds(&rt, alloc, &[6], 1048576, workers, 0));
+    }
+    Ok(())
+}
+
+#[test]
+fn refusals_are_told(rt: HostRuntime) -> Result<(), Fail> {
+    let alloc = rt.alloc();
+    let n = 1048576;
+    assert!(rt;
+        matches!(
+            isolated(&rt, alloc, (&[9], &[5]), n, 1, 1),
+            Err(IsolationRefusal::TestsSpent(1))
+        )
+    );
+    assert!(rt;
+        matches!(
+            isolated(&rt, alloc, (&[], &[5]), 20, 3, 2),
+            Err(IsolationRefusal::TestsSpent(3))
+        )
+    );
+    assert!(rt;
+        matches!(
+            isolated(&rt, alloc, (&[9], &[6]), n, 9, 1),
+            Err(IsolationRefusal::NotFailing(End::Done))
+        )
+    );
+    match isolated(&rt, alloc, (&[5], &[9]), n, 9, 1) {
+        Err(IsolationRefusal::NotPassing(end)) => assert!(rt; end == End::Fault(LOST)),
+        _ => assert!(rt; false),
+    }
+    Ok(())
+}
+
+/// Three schedules of one time each.
+fn three(alloc: Global, times: (u32, u32, u32)) -> Result<Vec<Schedule>, NoMemory>
+    ensures count { IfOk result (λ tests. length tests.items ≡ 3) }
+    ensures sizes { IfOk result (λ tests. All (λ test. length test ≤ 16384) tests.items) }
+{
+    let mut tests = Vec::new(alloc);
+    tests.push(schedule(alloc, &[times.0])?)?;
+    tests.push(schedule(alloc, &[times.1])?)?;
+    tests.push(schedule(alloc, &[times.2])?)?;
+    Ok(tests)
+}
+
+/// What is found among three schedules, and how many of them counted and were unresolved.
+fn found_by<R: Rounds>(
+    alloc: Global,
+    times: (u32, u32, u32),
+    rounds: &mut R,
+) -> Result<(Found, u64, u64), NoMemory>
+    requires { R.asked rounds.old ≡ 0 }
+{
+    let tests = three(alloc, times)?;
+    let found = rounds.first_resolved(alloc, tests.as_slice())?;
+    Ok((found, rounds.asked(), rounds.unresolved()))
+}
+
+/// The same, against a fault, by rounds on one thread or on several.
+fn found<H: Threads + Sync>(
+    rt: &H,
+    alloc: Global,
+    times: (u32, u32, u32),
+    fault: Fault,
+    workers: u32,
+) -> Result<(Found, u64, u64), NoMemory> {
+    let plain = two_writers(alloc)?;
+    if begins(alloc, &plain, 100)? {
+        if workers == 0 {
+            let mut rounds = SerialRounds::new(alloc, &plain, fault, 100)?;
+            found_by(alloc, times, &mut rounds)
+        } else {
+            let mut rounds = WideRounds::new(rt, alloc, &plain, fault, 100, workers)?;
+            found_by(alloc, times, &mut rounds)
+        }
+    } else {
+        Err(NoMemory)
+    }
+}
+
+// The first of [9], [6] and [5] passes. Against a fault at another instruction [5] is unresolved.
+#[test]
+fn tests_count_in_order(rt: HostRuntime) -> Result<(), Fail> {
+    let alloc = rt.alloc();
+    let other = Fault { at: 21, ..LOST };
+    let first = Found::Resolved {
+        at: 0,
+        outcome: Outcome::Pass,
+    };
+    let last = Found::Resolved {
+        at: 2,
+        outcome: Outcome::Pass,
+    };
+    for workers in [0, 1, 2, 3, 16] {
+        assert!(rt; found(&rt, alloc, (9, 6, 5), LOST, workers) == Ok((first, 1, 0)));
+        assert!(rt; found(&rt, alloc, (5, 5, 9), other, workers) == Ok((last, 3, 2)));
+        assert!(rt;
+            found(&rt, alloc, (5, 5, 5), other, workers) == Ok((Found::NoneResolved, 3, 3))
+        );
+    }
+    Ok(())
+}

@@ -1,9 +1,0 @@
-use Rattle.std.proofs.Common.{◌≡◌, length, take}
-use Rattle.schedule_log.specs.Parts.{AreParts}
-use Rattle.schedule_log.proofs.tests.recorded.Given as goal
-
-abbrev pub invariant-loop-clock : goal.invariant-loop-clock
-invariant-loop-clock l = record {
-  many : length l.parts.items ≡ 3;
-  are : AreParts (take l.clock l.threads) l.parts.items;
-}

@@ -1,0 +1,4 @@
+pub mod Schedules
+pub mod Outcomes
+pub mod Finds
+pub mod Laws

@@ -1,0 +1,11 @@
+pub mod Numbers
+pub mod Texts
+pub mod First
+pub mod Reached
+pub mod Deriving
+pub mod Followed
+pub mod Refused
+pub mod Alike
+pub mod Drawing
+pub mod Searched
+pub mod Tries
