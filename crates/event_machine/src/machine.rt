@@ -1,4 +1,4 @@
-ghost use Rattle.std.specs.Prelude.{◌≡◌, ◌^◌, ◌+◌, ◌++◌, ◌∷◌, [], None, Some, ◌<◌, ◌≤◌, ℕ, find, true, false, IfOk, IfErr, OnOk, OnErr, IfNone, IfSome, IsTrue, length, not, ◌-◌, ◌==◌};
+ghost use Rattle.std.specs.Prelude.{map, ◌≡◌, ◌^◌, ◌+◌, ◌++◌, ◌∷◌, [], None, Some, ◌<◌, ◌≤◌, ℕ, find, true, false, IfOk, IfErr, OnOk, OnErr, IfNone, IfSome, IsTrue, length, not, ◌-◌, ◌==◌};
 ghost use Rattle.std.specs.List.{list_any, range_with_len};
 ghost use Rattle.std.specs.Option.{option_or};
 ghost use Rattle.vm_model.specs.declared.limits.TheConstants.{MOST_EVENTS, MOST_THREADS};
@@ -6,7 +6,9 @@ ghost use Rattle.vm_model.specs.Program.{PlainProgram};
 ghost use Rattle.machine_model.specs.Shared.{is_live};
 ghost use Rattle.machine_model.specs.Machine.{end_of, first_end, has_ended, is_enabled, start_machine, turn};
 ghost use Rattle.machine_model.specs.Ring.{Cuts, moved_on, next_in_ring, pick, ring_after};
-ghost use Rattle.event_machine.specs.MachineView.{machine_from, may_do, pending_at, IsHistory, IsWhole};
+ghost use Rattle.machine_model.specs.Declarations.{declarations_of};
+ghost use Rattle.projection_laws.specs.Projections.{AreProjections};
+ghost use Rattle.event_machine.specs.MachineView.{AllReady, state_of, machine_from, may_do, pending_at, IsHistory, IsWhole};
 
 use crate::threads::{copy_all, first_thread, go_on, operation_at, start};
 use local_machine::Local;
@@ -71,6 +73,18 @@ fn event_of(
     Ok(Entry { thread, op, reply })
 }
 
+/// The threads' own entries are those of one run. There is nothing to look at.
+fn assembled(world: &World, locals: &[Local], plain: &Plain) -> bool
+    requires declarations { world.now.declarations ≡ declarations_of plain.now }
+    requires ready { AllReady plain.now locals.now }
+    requires projections { AreProjections plain.now world.now.history world.now.shared (map state_of locals.now) }
+    ensures whole { IsWhole plain.now world.now locals.now }
+    ensures history { IsHistory plain.now world.now.history }
+    ensures is { result ≡ true }
+{
+    world.history().len() as u64 == world.clock()
+}
+
 /// The end that comes first.
 fn first_of(fault: Option<Fault>, done: bool, stuck: bool, spent: bool) -> Option<End>
     ensures first { result ≡ first_end fault done stuck spent }
@@ -114,6 +128,23 @@ impl Machine {
             locals,
             is_broken: false,
         })
+    }
+
+    /// The machine of a world and of threads that ran by themselves: each stands where its own entries in the world's history
+    /// lead it. It takes no memory.
+    pub fn assemble(plain: &Plain, world: World, locals: Vec<Local>) -> Machine
+        requires declarations { world.declarations ≡ declarations_of plain.now }
+        requires ready { AllReady plain.now locals.items }
+        requires projections { AreProjections plain.now world.history world.shared (map state_of locals.items) }
+        ensures parts { result ≡ record { world = world; locals = locals.items; is_broken = false } }
+        ensures own { IsMachineOf plain.now result }
+    {
+        let legal = assembled(&world, &locals, plain);
+        Machine {
+            world,
+            locals,
+            is_broken: !legal,
+        }
     }
 
     /// An equal machine.

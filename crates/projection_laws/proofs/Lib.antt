@@ -3,3 +3,4 @@ pub mod Rows
 pub mod Steps
 pub mod Projected
 pub mod Alone
+pub mod Targets

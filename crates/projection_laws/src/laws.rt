@@ -1,12 +1,12 @@
-ghost use Rattle.std.specs.Prelude.{◌≡◌, ℕ, List, Some};
+ghost use Rattle.std.specs.Prelude.{◌≡◌, ℕ, List, Some, slice_get};
 ghost use Rattle.vm_model.specs.declared.op.Entry.{Entry};
 ghost use Rattle.vm_model.specs.Program.{PlainProgram};
-ghost use Rattle.machine_model.specs.Declarations.{declarations_of};
+ghost use Rattle.machine_model.specs.Declarations.{Declarations, declarations_of};
 ghost use Rattle.machine_model.specs.Frames.{LocalState};
 ghost use Rattle.machine_model.specs.Machine.{MachineState, run, threads_of};
-ghost use Rattle.machine_model.specs.Operations.{IsLegalHistory};
+ghost use Rattle.machine_model.specs.Operations.{IsLegalHistory, target_of};
 ghost use Rattle.machine_model.specs.Shared.{SharedState};
-ghost use Rattle.projection_laws.specs.Projections.{AreProjections, machine_of};
+ghost use Rattle.projection_laws.specs.Projections.{AreProjections, machine_of, target_in};
 
 /// The projection theorem. Where each reply of a history is the one that the operations before it lead to, and each thread's
 /// own entries are what the thread by itself asks for, the history is that of the run of its thread column. So threads may
@@ -20,4 +20,9 @@ pub fn run_is_legal_with_projections()
     ensures threads { (p : PlainProgram) (ts : List ℕ) (m : MachineState) → run p ts ≡ Some m → threads_of m.history ≡ ts }
     ensures legal { (p : PlainProgram) (ts : List ℕ) (m : MachineState) → run p ts ≡ Some m → IsLegalHistory (declarations_of p) m.history m.world }
     ensures projections { (p : PlainProgram) (ts : List ℕ) (m : MachineState) → run p ts ≡ Some m → AreProjections p m.history m.world m.locals }
+{}
+
+/// The object of a thread is the one of the start in the history that began the thread.
+pub fn targets_stand_in_the_history()
+    ensures { (d : Declarations) (h : List Entry) (s : SharedState) → IsLegalHistory d h s → (u : ℕ) → target_of (slice_get s.rows u) ≡ target_in h u }
 {}

@@ -3,4 +3,6 @@
 
 mod laws;
 
-pub use laws::{legal_projections_are_a_run, run_is_legal_with_projections};
+pub use laws::{
+    legal_projections_are_a_run, run_is_legal_with_projections, targets_stand_in_the_history,
+};
