@@ -59,7 +59,7 @@ record Goes (p : PlainProgram) (threads times : List ℕ) (budget clock : ℕ) :
   machine : MachineState
   runs : run p (take clock threads) ≡ Some machine
   column : threads_of machine.history ≡ take clock threads
-  follows : Follows p times budget machine (thread_before threads clock)
+  follows : Follows p times budget (schedule_threads p times budget) machine (thread_before threads clock)
 
 goes_on : (p : PlainProgram) (threads times : List ℕ) (budget : ℕ) (m : MachineState) → run p threads ≡ Some m → length threads ≤ budget → DerivesUpTo p threads (length threads) times → (clock : ℕ) → clock ≤ length threads → Goes p threads times budget clock
 goes_on p threads times budget m ran within d zero h =
@@ -79,7 +79,7 @@ goes_on p threads times budget m ran within d (suc clock) h =
       machine = next.machine;
       runs = next.runs;
       column = column-more p before.machine next.machine t turned ∙ ap (λ (ts : List ℕ). ts ++ t ∷ []) before.column ∙ sym (take_more threads clock 0 lt) ∙ ap (λ (n : ℕ). take n threads) (sym same);
-      follows = follows-more p times budget before.machine next.machine (thread_before threads clock) t going picked turned before.follows;
+      follows = follows-more p times budget (schedule_threads p times budget) before.machine next.machine (thread_before threads clock) t going picked turned before.follows;
     }
 
 ended : (o : Option End) (k : EndKind) → option_map kind_of_end o ≡ Some k → (e : End) × (o ≡ Some e)
@@ -94,7 +94,7 @@ runs_again p threads times budget m k ran within told d =
     let same : last.machine ≡ m = some_machine last.machine m (sym last.runs ∙ ap (run p) all ∙ ran) in
     let e = ended (end_of p m budget) k told in
     let over : end_of p last.machine budget ≡ Some e.0 = ap (λ (n : MachineState). end_of p n budget) same ∙ e.1 in
-    sym (follows-ended p times budget last.machine (thread_before threads (length threads)) e.0 over last.follows) ∙ last.column ∙ all
+    sym (follows-ended p times budget (schedule_threads p times budget) last.machine (thread_before threads (length threads)) e.0 over last.follows) ∙ last.column ∙ all
 
 -- ---- what was derived of a whole log
 

@@ -17,7 +17,7 @@ use Rattle.schedule_log.specs.Foldings.{PlainFolding}
 use Rattle.schedule_log.specs.Logs.{PlainLog, IsLawful, expansion}
 use Rattle.schedule_log.specs.Parts.{log_of_parts, AreParts, IsLoggable}
 use Rattle.schedule_log.proofs.Folded.{folded_run}
-use Rattle.thread_driver.specs.Recordings.{IsRecording}
+use Rattle.thread_driver.specs.Recordings.{threads_on, IsRecording}
 
 pub length-threads_of : (h : List Entry) → length (threads_of h) ≡ length h
 length-threads_of h = length-map h thread_of
@@ -76,19 +76,25 @@ recording p m budget e kind parts log output ran ended can are same is printed =
 
 -- ---- the run of a schedule
 
--- the run so far, and what the schedule goes on with
-pub record Follows (p : PlainProgram) (times : List ℕ) (events : ℕ) (m : MachineState) (t : ℕ) : Type 0 where
+-- the run so far, and what the schedule goes on with, are this list of threads
+pub record Follows (p : PlainProgram) (times : List ℕ) (events : ℕ) (whole : List ℕ) (m : MachineState) (t : ℕ) : Type 0 where
   pub within : length m.history ≤ events
-  pub threads : schedule_threads p times events ≡ threads_of m.history ++ scheduled_from p times events m t (events - length m.history)
+  pub threads : whole ≡ threads_of m.history ++ scheduled_from p times events m t (events - length m.history)
 
-pub follows-start : (p : PlainProgram) (times : List ℕ) (events : ℕ) (m : MachineState) → m ≡ start_machine p → Follows p times events m 0
-follows-start p times events m e = subst (λ (k : MachineState). Follows p times events k 0) (sym e) (let whole : events ≡ events - 0 = omega arith in record { within = omega arith; threads = ap (scheduled_from p times events (start_machine p) 0) whole })
+pub follows-start : (p : PlainProgram) (times : List ℕ) (events : ℕ) (m : MachineState) → m ≡ start_machine p → Follows p times events (schedule_threads p times events) m 0
+follows-start p times events m e =
+    subst (λ (k : MachineState). Follows p times events (schedule_threads p times events) k 0) (sym e)
+    (let whole : events ≡ events - 0 = omega arith in record { within = omega arith; threads = ap (scheduled_from p times events (start_machine p) 0) whole })
+
+pub follows-on : (p : PlainProgram) (events : ℕ) (m : MachineState) (t : ℕ) → length m.history ≤ events → Follows p [] events (threads_on p m t events) m t
+follows-on p events m t within = record { within = within; threads = refl }
 
 pub left : (p : PlainProgram) (m : MachineState) (budget : ℕ) → end_of p m budget ≡ None → length m.history ≤ budget → length m.history < budget
 left p m budget e within = omega (arith, within, eqb-false (length m.history) budget (end_of-open p m budget e).not_spent)
 
-pub follows-more : (p : PlainProgram) (times : List ℕ) (events : ℕ) (m n : MachineState) (t u : ℕ) → end_of p m events ≡ None → pick p m t (switches_at times (length m.history)) ≡ Some u → turn p m u ≡ Some n → Follows p times events m t → Follows p times events n u
-follows-more p times events m n t u open' picked turned f =
+pub follows-more : (p : PlainProgram) (times : List ℕ) (events : ℕ) (whole : List ℕ) (m n : MachineState) (t u : ℕ) → end_of p m events ≡ None → pick p m t (switches_at times (length m.history)) ≡ Some u → turn p m u ≡ Some n → Follows p times events whole m t
+    → Follows p times events whole n u
+follows-more p times events whole m n t u open' picked turned f =
     let size = length-more p m n u turned in
     let room = left p m events open' f.within in
     let step : events - length m.history ≡ suc (events - length n.history) = omega (arith, size, room) in
@@ -102,8 +108,8 @@ follows-more p times events m n t u open' picked turned f =
           ∙ ap (λ (ts : List ℕ). ts ++ scheduled_from p times events n u (events - length n.history)) (sym (column-more p m n u turned));
     }
 
-pub follows-ended : (p : PlainProgram) (times : List ℕ) (events : ℕ) (m : MachineState) (t : ℕ) (e : End) → end_of p m events ≡ Some e → Follows p times events m t → threads_of m.history ≡ schedule_threads p times events
-follows-ended p times events m t e ended f =
+pub follows-ended : (p : PlainProgram) (times : List ℕ) (events : ℕ) (whole : List ℕ) (m : MachineState) (t : ℕ) (e : End) → end_of p m events ≡ Some e → Follows p times events whole m t → threads_of m.history ≡ whole
+follows-ended p times events whole m t e ended f =
     sym (f.threads ∙ ap (λ (ts : List ℕ). threads_of m.history ++ ts) (scheduled-ended p times events m t (events - length m.history) e ended) ∙ append-nil (threads_of m.history))
 
 -- ---- the thread that is picked

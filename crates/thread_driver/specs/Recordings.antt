@@ -1,9 +1,10 @@
 -- What a recording says of a run, and where a log parts from its program.
-use Rattle.std.specs.Prelude.{◌≡◌, ◌≢◌, ℕ, List, Option, Some, None, option_map, slice_get, take}
+use Rattle.std.specs.Prelude.{◌≡◌, ◌≢◌, ◌-◌, ◌++◌, ℕ, List, [], Option, Some, None, length, option_map, slice_get, take}
 use Rattle.vm_model.specs.declared.ends.End.{End}
 use Rattle.vm_model.specs.Ends.{kind_of_end}
 use Rattle.vm_model.specs.Program.{PlainProgram}
-use Rattle.machine_model.specs.Machine.{MachineState, end_of, run, turn}
+use Rattle.machine_model.specs.Machine.{MachineState, end_of, run, threads_of, turn}
+use Rattle.machine_model.specs.Ring.{scheduled_from}
 use Rattle.schedule_log.specs.Logs.{PlainLog, IsLawful, events, expansion}
 
 -- The log, the output and the end are those of one run of the program: the log is lawful, its threads lead to a machine that
@@ -33,3 +34,7 @@ pub record DivergesAtEnd (p : PlainProgram) (log : PlainLog) (clock : ℕ) : Typ
 abbrev pub Diverges : PlainProgram → PlainLog → ℕ → Option ℕ → Type 0
 Diverges p log clock (Some thread) = DivergesAt p log clock thread
 Diverges p log clock None = DivergesAtEnd p log clock
+
+-- the threads of the run so far, and then those by the ring without switches, from this thread on
+abbrev pub threads_on : PlainProgram → MachineState → ℕ → ℕ → List ℕ
+threads_on p m t budget = threads_of m.history ++ scheduled_from p [] budget m t (budget - length m.history)

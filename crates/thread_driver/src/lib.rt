@@ -5,5 +5,5 @@ mod record;
 mod replay;
 mod switches;
 
-pub use record::{DriverFault, Recording, record_schedule, record_still};
-pub use replay::{ReplayFault, replay_still, replay_until};
+pub use record::{DriverFault, Recording, record_on, record_schedule, record_still};
+pub use replay::{ReplayFault, replay_on, replay_still, replay_until};

@@ -9,7 +9,7 @@ ghost use Rattle.schedule_log.specs.Logs.{expansion, IsLawful};
 ghost use Rattle.schedule_log.specs.Parts.{AreParts, IsLoggable, log_of_parts};
 ghost use Rattle.event_machine.specs.MachineView.{machine_of, IsMachineOf};
 ghost use Rattle.event_machine.specs.Turns.{Turned};
-ghost use Rattle.thread_driver.specs.Recordings.{IsRecording};
+ghost use Rattle.thread_driver.specs.Recordings.{threads_on, IsRecording};
 
 use crate::switches::{in_order, places_at};
 use event_machine::{Machine, TurnFault};
@@ -155,6 +155,37 @@ pub fn record_schedule(
         };
         record_event(alloc, plain, &mut machine, &mut parts, next)?;
         passed += places as usize;
+        thread = next;
+    }
+}
+
+/// Goes on with a run that was begun elsewhere: from this machine, with the foldings of the run so far, one of each thread from
+/// 0 to 63. This thread is the current one, and the rest is by the ring without switches.
+pub fn record_on(
+    alloc: Global,
+    plain: &Plain,
+    mut machine: Machine,
+    mut parts: Vec<Folding>,
+    mut thread: u32,
+) -> Result<Recording, NoMemory>
+    requires own { IsMachineOf plain.now machine }
+    requires whole { machine.is_broken ≡ false }
+    requires begins { end_of plain.now (start_machine plain.now) machine.world.budget ≡ None }
+    requires within { length machine.world.history ≤ machine.world.budget }
+    requires few { length parts.items ≡ MOST_THREADS }
+    requires parts { AreParts (threads_of machine.world.history) parts.items }
+    ensures recording { IfOk result (λ r. IsRecording plain.now r.log r.output.items r.end) }
+    ensures threads { IfOk result (λ r. expansion r.log ≡ threads_on plain.now (machine_of machine) thread machine.world.budget) }
+    ensures budget { IfOk result (λ r. r.log.budget ≡ machine.world.budget) }
+{
+    loop {
+        if let Some(end) = machine.end() {
+            return finished(alloc, plain, &machine, parts, end);
+        }
+        let Some(next) = machine.pick(thread, 0) else {
+            unreachable!()
+        };
+        record_event(alloc, plain, &mut machine, &mut parts, next)?;
         thread = next;
     }
 }

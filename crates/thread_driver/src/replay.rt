@@ -1,5 +1,5 @@
-ghost use Rattle.std.specs.Prelude.{◌≡◌, ◌≤◌, ◌<◌, ℕ, IfOk, IfErr, Some, None, false, length, take};
-ghost use Rattle.machine_model.specs.Machine.{end_of, run};
+ghost use Rattle.std.specs.Prelude.{◌≡◌, ◌≤◌, ◌<◌, ℕ, [], IfOk, IfErr, Some, None, false, length, take};
+ghost use Rattle.machine_model.specs.Machine.{end_of, run, threads_of};
 ghost use Rattle.schedule_log.specs.Logs.{events, expansion, IsLawful};
 ghost use Rattle.event_machine.specs.MachineView.{machine_of, IsMachineOf};
 ghost use Rattle.thread_driver.specs.Recordings.{IsRecording};
@@ -77,16 +77,38 @@ fn refusal(fault: TurnFault, clock: u64, thread: u32) -> ReplayFault
     }
 }
 
-/// The machine after the log's first events, so many of them.
+/// The machine before the log's first event.
+fn at_start(alloc: Global, plain: &Plain, log: &Log) -> Result<Machine, ReplayFault>
+    requires lawful { IsLawful log.now }
+    ensures own { IfOk result (IsMachineOf plain.now) }
+    ensures whole { IfOk result (λ m. m.is_broken ≡ false) }
+    ensures budget { IfOk result (λ m. m.world.budget ≡ log.now.budget) }
+    ensures start { IfOk result (λ m. run plain.now [] ≡ Some (machine_of m)) }
+    ensures err { IfErr result (λ e. e ≡ ReplayFault.NoMemory) }
+{
+    match Machine::new(alloc, plain, log.budget()) {
+        Ok(machine) => Ok(machine),
+        Err(_) => Err(ReplayFault::NoMemory),
+    }
+}
+
+/// Goes on from the machine after the log's first events, to the one after so many.
 fn turned(
     alloc: Global,
     plain: &Plain,
     log: &Log,
     threads: &[u32],
+    mut machine: Machine,
+    made: usize,
     count: usize,
 ) -> Result<Machine, ReplayFault>
     requires threads { threads.now ≡ expansion log.now }
     requires lawful { IsLawful log.now }
+    requires own { IsMachineOf plain.now machine }
+    requires whole { machine.is_broken ≡ false }
+    requires budget { machine.world.budget ≡ log.now.budget }
+    requires runs { run plain.now (take made threads.now) ≡ Some (machine_of machine) }
+    requires further { made ≤ count }
     requires within { count ≤ length threads.now }
     ensures own { IfOk result (IsMachineOf plain.now) }
     ensures whole { IfOk result (λ m. m.is_broken ≡ false) }
@@ -94,10 +116,7 @@ fn turned(
     ensures runs { IfOk result (λ m. run plain.now (take count threads.now) ≡ Some (machine_of m)) }
     ensures err { IfErr result (RefusesBefore plain.now log.now count) }
 {
-    let Ok(mut machine) = Machine::new(alloc, plain, log.budget()) else {
-        return Err(ReplayFault::NoMemory);
-    };
-    for clock in 0..count {
+    for clock in made..count {
         let thread = threads[clock];
         match machine.turn(alloc, plain, thread) {
             Ok(_) => {}
@@ -117,7 +136,32 @@ pub fn replay_still(alloc: Global, plain: &Plain, log: &Log) -> Result<Recording
     let Ok(threads) = log.expand(alloc) else {
         return Err(ReplayFault::NoMemory);
     };
-    let machine = turned(alloc, plain, log, &threads, threads.len())?;
+    let start = at_start(alloc, plain, log)?;
+    let machine = turned(alloc, plain, log, &threads, start, 0, threads.len())?;
+    repeated(alloc, plain, &machine, log)
+}
+
+/// Goes on with a replay that was begun elsewhere: from this machine, which made the log's first events, to the log's end.
+/// `Diverged` is as in `replay_still`.
+pub fn replay_on(
+    alloc: Global,
+    plain: &Plain,
+    machine: Machine,
+    log: &Log,
+) -> Result<Recording, ReplayFault>
+    requires own { IsMachineOf plain.now machine }
+    requires whole { machine.is_broken ≡ false }
+    requires budget { machine.world.budget ≡ log.now.budget }
+    requires by_log { threads_of machine.world.history ≡ take (length machine.world.history) (expansion log.now) }
+    ensures ok { IfOk result (λ r. IsRecording plain.now r.log r.output.items r.end) }
+    ensures log { IfOk result (λ r. r.log ≡ log.now) }
+    ensures err { IfErr result (Refuses plain.now log.now) }
+{
+    let Ok(threads) = log.expand(alloc) else {
+        return Err(ReplayFault::NoMemory);
+    };
+    let made = machine.world().clock() as usize;
+    let machine = turned(alloc, plain, log, &threads, machine, made, threads.len())?;
     repeated(alloc, plain, &machine, log)
 }
 
@@ -137,10 +181,11 @@ pub fn replay_until(
     let Ok(threads) = log.expand(alloc) else {
         return Err(ReplayFault::NoMemory);
     };
+    let start = at_start(alloc, plain, log)?;
     let all = threads.len();
     if clock < all as u64 {
-        turned(alloc, plain, log, &threads, clock as usize)
+        turned(alloc, plain, log, &threads, start, 0, clock as usize)
     } else {
-        turned(alloc, plain, log, &threads, all)
+        turned(alloc, plain, log, &threads, start, 0, all)
     }
 }

@@ -2,7 +2,7 @@ use Rattle.std.proofs.Common.{◌≡◌, ℕ, ◌-◌, length, take, drop, Some,
 use Rattle.std.proofs.lemmas.List.{length-drop, take_rest}
 use Rattle.std.proofs.lemmas.Result.{IfOk-weaker}
 use Rattle.machine_model.specs.Machine.{end_of}
-use Rattle.machine_model.specs.Ring.{pick, switches_at}
+use Rattle.machine_model.specs.Ring.{pick, schedule_threads, switches_at}
 use Rattle.shared_world.specs.Worlds.{WorldState}
 use Rattle.event_machine.specs.MachineView.{machine_of}
 use Rattle.thread_driver.proofs.Recorded.{follows-ended, follows-more, open-picks, picked-enabled}
@@ -15,7 +15,7 @@ returns-in-Some-clause-threads c =
     let m = c.loop-end.machine in
     let kept = c.loop-end.invariant in
     let ended : end_of p (machine_of m) c.args.events ≡ Some c.in-Some.end = ap (λ (b : ℕ). end_of p (machine_of m) b) (sym kept.budget) ∙ sym (c.end.ensures.meaning p kept.own) ∙ c.in-Some.is in
-    IfOk-weaker c.finished.result _ _ (λ r e. e ∙ follows-ended p c.args.times.now c.args.events (machine_of m) c.loop-end.thread c.in-Some.end ended kept.follows) c.finished.ensures.threads
+    IfOk-weaker c.finished.result _ _ (λ r e. e ∙ follows-ended p c.args.times.now c.args.events (schedule_threads p c.args.times.now c.args.events) (machine_of m) c.loop-end.thread c.in-Some.end ended kept.follows) c.finished.ensures.threads
 
 pub unreachable-requires : goal.unreachable-requires
 unreachable-requires c =
@@ -54,5 +54,5 @@ loop-end-preserved c =
       waits = awaits-more c.args.times.now c.in_ok-sorted.sorted.items waiting c.loop-end.passed c.places_at-places.result (length m.world.history) c.clock.result (length c.record_event.new.machine.world.history) same now made.history kept.waits c.places_at-places.ensures.rest;
       size = kept.size;
       reached = omega (arith, c.places_at-places.ensures.within, ap length same ∙ length-drop c.loop-end.passed c.in_ok-sorted.sorted.items, kept.reached);
-      follows = follows-more p c.args.times.now c.args.events (machine_of m) (machine_of c.record_event.new.machine) c.loop-end.thread c.in-Some-pick.next going picked made.turned kept.follows;
+      follows = follows-more p c.args.times.now c.args.events (schedule_threads p c.args.times.now c.args.events) (machine_of m) (machine_of c.record_event.new.machine) c.loop-end.thread c.in-Some-pick.next going picked made.turned kept.follows;
     }

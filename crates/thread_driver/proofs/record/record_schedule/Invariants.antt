@@ -1,5 +1,6 @@
 use Rattle.std.proofs.Common.{◌≡◌, ◌≤◌, ◌-◌, false, length, drop}
 use Rattle.machine_model.specs.Machine.{threads_of}
+use Rattle.machine_model.specs.Ring.{schedule_threads}
 use Rattle.schedule_log.specs.Parts.{AreParts}
 use Rattle.event_machine.specs.MachineView.{machine_of, IsMachineOf}
 use Rattle.thread_driver.specs.Waiting.{Awaits}
@@ -16,7 +17,7 @@ invariant-loop-end l = record {
   size : length l.sorted.items ≡ length l.times;
   reached : l.passed ≤ length l.sorted.items;
   waits : Awaits l.times (length l.machine.world.history) (drop l.passed l.sorted.items);
-  follows : Follows l.plain l.times l.events (machine_of l.machine) l.thread;
+  follows : Follows l.plain l.times l.events (schedule_threads l.plain l.times l.events) (machine_of l.machine) l.thread;
 }
 
 abbrev pub decreases-loop-end : goal.decreases-loop-end

@@ -12,9 +12,9 @@ loop-clock-preserved c =
     let lt : c.loop-clock.clock < length threads = omega (arith, c.loop-clock-test.true, c.requires.within) in
     record {
       own = c.turn.ensures.own;
-      whole = c.in-Ok-turn.ensures.whole.1;
-      budget = c.in-Ok-turn.ensures.ok.budget ∙ kept.budget;
-      runs = turned-more c.args.plain.now threads c.loop-clock.clock old (machine_of c.turn.new.self) lt kept.runs c.in-Ok-turn.ensures.ok.turned;
+      whole = c.in-Ok.ensures.whole.1;
+      budget = c.in-Ok.ensures.ok.budget ∙ kept.budget;
+      runs = turned-more c.args.plain.now threads c.loop-clock.clock old (machine_of c.turn.new.self) lt kept.runs c.in-Ok.ensures.ok.turned;
     }
 
 pub returns-in-Err-clause-err : goal.returns-in-Err-clause-err
