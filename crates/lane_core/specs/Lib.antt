@@ -1,0 +1,5 @@
+pub mod Parts
+pub mod Slots
+pub mod Lanes
+pub mod LaneFields
+pub mod Leaving

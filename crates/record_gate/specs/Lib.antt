@@ -1,0 +1,12 @@
+pub mod Lanes
+pub mod Views
+pub mod Rule
+pub mod Judging
+pub mod Steps
+pub mod Seats
+pub mod SeatView
+pub mod GateView
+pub mod Handled
+pub mod Calls
+pub mod Offers
+pub mod WorldGates

@@ -1,0 +1,83 @@
+ghost use Rattle.std.specs.Prelude.{◌≡◌, ◌||◌};
+ghost use Rattle.record_gate.specs.Offers.{offer_of, is_leave, is_over};
+
+use crate::answers::Committing;
+use crate::gate::RecordGate;
+use crate::seat::RecordSeat;
+use gate_core::{Begun, Gate, Offer};
+use std::alloc::Global;
+use vm_model::Op;
+
+/// What a lane is told of an answer.
+fn offered(answer: Committing) -> Offer
+    ensures { result ≡ offer_of answer }
+{
+    match answer {
+        Committing::Committed { clock, reply } => Offer::Committed { clock, reply },
+        Committing::Busy => Offer::Again,
+        Committing::Blocked => Offer::Again,
+        Committing::Over(_) => Offer::Leave,
+        Committing::Spent => Offer::Leave,
+        Committing::NoMemory => Offer::NoMemory,
+    }
+}
+
+fn tells_off(offer: Offer) -> bool
+    ensures { result ≡ is_leave offer }
+{
+    match offer {
+        Offer::Leave => true,
+        Offer::Committed { .. } => false,
+        Offer::Again => false,
+        Offer::NoMemory => false,
+    }
+}
+
+fn ends(begun: Begun) -> bool
+    ensures { result ≡ is_over begun }
+{
+    match begun {
+        Begun::Over => true,
+        Begun::Yes(_) => false,
+        Begun::NotYet => false,
+    }
+}
+
+/// Notes that the lane has nothing left to do.
+fn tell_off(seat: &mut RecordSeat, off: bool)
+    ensures { seat.new ≡ record seat.old { is_told_off = seat.old.is_told_off || off } }
+{
+    if off {
+        seat.is_told_off = true;
+    }
+}
+
+impl Gate for RecordGate {
+    ghost use Rattle.record_gate.specs.Offers.{about_of, told_of};
+    ghost use Rattle.record_gate.specs.Seats.{IsSeatOf as IsMade};
+
+    type Seat = RecordSeat;
+
+    ghost about = { about_of };
+
+    ghost told = { told_of };
+
+    ghost IsSeatOf = { IsMade };
+
+    fn offer(&self, alloc: Global, seat: &mut RecordSeat, thread: u32, op: Op) -> Offer {
+        let answer = self.try_commit(alloc, seat, thread, op);
+        let offer = offered(answer);
+        tell_off(seat, tells_off(offer));
+        offer
+    }
+
+    fn begun(&self, seat: &mut RecordSeat, thread: u32) -> Begun {
+        let begun = RecordGate::begun(self, seat, thread);
+        tell_off(seat, ends(begun));
+        begun
+    }
+
+    fn clock(&self, seat: &mut RecordSeat) -> u64 {
+        RecordGate::clock(self, seat)
+    }
+}

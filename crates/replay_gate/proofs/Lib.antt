@@ -1,0 +1,10 @@
+pub mod Clocks
+pub mod Lists
+pub mod Keeps
+pub mod Looking
+pub mod Ending
+pub mod Splitting
+pub mod Joining
+pub mod Closing
+pub mod Taken
+pub mod Telling

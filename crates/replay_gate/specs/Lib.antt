@@ -1,0 +1,10 @@
+pub mod Answers
+pub mod Gates
+pub mod GateView
+pub mod Lanes
+pub mod Laws
+pub mod Offers
+pub mod Places
+pub mod Rule
+pub mod Steps
+pub mod Replayed
