@@ -38,14 +38,18 @@ with_option id least most default a = with_rule a (option_rule id least most def
 abbrev pub with_events : App → App
 with_events a = with_option (codes "events") 1 1048576 (codes "1048576") a
 
+-- on how many lanes a program runs
+abbrev pub with_lanes : App → App
+with_lanes a = with_option (codes "lanes") 1 16 (codes "1") a
+
 unfoldable pub check_app : App
 check_app = with_text (codes "P") (bare (codes "check"))
 
 unfoldable pub record_app : App
-record_app = with_events (with_text (codes "LOG") (with_text (codes "P") (bare (codes "record"))))
+record_app = with_events (with_lanes (with_text (codes "LOG") (with_text (codes "P") (bare (codes "record")))))
 
 unfoldable pub replay_app : App
-replay_app = with_text (codes "LOG") (with_text (codes "P") (bare (codes "replay")))
+replay_app = with_lanes (with_text (codes "LOG") (with_text (codes "P") (bare (codes "replay"))))
 
 unfoldable pub show_app : App
 show_app = with_number (codes "CLOCK") 0 1048576 (with_text (codes "LOG") (with_text (codes "P") (bare (codes "show"))))

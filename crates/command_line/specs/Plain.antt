@@ -9,8 +9,8 @@ use Rattle.command_line.specs.Requests as request
 
 abbrev pub plain_command : code.Command → Request
 plain_command (command.Check program) = request.Check program.now
-plain_command (command.Record program log events) = request.Record program.now log.now events
-plain_command (command.Replay program log) = request.Replay program.now log.now
+plain_command (command.Record program log lanes events) = request.Record program.now log.now lanes events
+plain_command (command.Replay program log lanes) = request.Replay program.now log.now lanes
 plain_command (command.Show program log clock) = request.Show program.now log.now clock
 plain_command (command.Derive program log schedule) = request.Derive program.now log.now schedule.now
 plain_command (command.Run program schedule events) = request.Run program.now schedule.now events
@@ -22,11 +22,14 @@ plain_command command.Unknown = request.Unknown
 abbrev pub IsEvents : ℕ → Type 0
 IsEvents events = (1 ≤ events) × (events ≤ 1048576)
 
+abbrev pub IsLanes : ℕ → Type 0
+IsLanes lanes = (1 ≤ lanes) × (lanes ≤ 16)
+
 -- the numbers of a command are within their bounds
 abbrev pub IsWithin : code.Command → Type 0
 IsWithin (command.Check program) = Unit {0}
-IsWithin (command.Record program log events) = IsEvents events
-IsWithin (command.Replay program log) = Unit {0}
+IsWithin (command.Record program log lanes events) = IsLanes lanes × IsEvents events
+IsWithin (command.Replay program log lanes) = IsLanes lanes
 IsWithin (command.Show program log clock) = clock ≤ 1048576
 IsWithin (command.Derive program log schedule) = Unit {0}
 IsWithin (command.Run program schedule events) = IsEvents events

@@ -10,10 +10,10 @@ use Rattle.command_line.specs.Commands as word
 pub data Request : Type 0 where
   -- a program
   Check : List ℕ → Request
-  -- a program, a log, how many events
-  Record : List ℕ → List ℕ → ℕ → Request
-  -- a program, a log
-  Replay : List ℕ → List ℕ → Request
+  -- a program, a log, how many lanes and events
+  Record : List ℕ → List ℕ → ℕ → ℕ → Request
+  -- a program, a log, how many lanes
+  Replay : List ℕ → List ℕ → ℕ → Request
   -- a program, a log, a clock
   Show : List ℕ → List ℕ → ℕ → Request
   -- a program, a log, a schedule
@@ -45,13 +45,16 @@ number_in id least most rows = spelled least most (text_in id rows)
 abbrev pub events_in : List Row → ℕ
 events_in rows = number_in (codes "events") 1 1048576 rows
 
+abbrev pub lanes_in : List Row → ℕ
+lanes_in rows = number_in (codes "lanes") 1 16 rows
+
 -- ---- requests
 
 -- the request of a command, with the values that clap found
 abbrev pub request_with : Word → List Row → Request
 request_with word.Check rows = Check (text_in (codes "P") rows)
-request_with word.Record rows = Record (text_in (codes "P") rows) (text_in (codes "LOG") rows) (events_in rows)
-request_with word.Replay rows = Replay (text_in (codes "P") rows) (text_in (codes "LOG") rows)
+request_with word.Record rows = Record (text_in (codes "P") rows) (text_in (codes "LOG") rows) (lanes_in rows) (events_in rows)
+request_with word.Replay rows = Replay (text_in (codes "P") rows) (text_in (codes "LOG") rows) (lanes_in rows)
 request_with word.Show rows = Show (text_in (codes "P") rows) (text_in (codes "LOG") rows) (number_in (codes "CLOCK") 0 1048576 rows)
 request_with word.Derive rows = Derive (text_in (codes "P") rows) (text_in (codes "LOG") rows) (text_in (codes "SCHED") rows)
 request_with word.Run rows = Run (text_in (codes "P") rows) (text_in (codes "SCHED") rows) (events_in rows)

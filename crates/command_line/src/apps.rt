@@ -78,6 +78,12 @@ fn with_events<'a>(command: Command<'a>, alloc: Global) -> Result<Command<'a>, A
     with_option(command, alloc, "events", 1, 1_048_576, "1048576")
 }
 
+fn with_lanes<'a>(command: Command<'a>, alloc: Global) -> Result<Command<'a>, AllocError>
+    ensures { IfOk result (λ c. app_of c ≡ spec.with_lanes (app_of command.entry)) }
+{
+    with_option(command, alloc, "lanes", 1, 16, "1")
+}
+
 #[tactic(auto, unfolding(crate::specs::Commands::check_app))]
 fn check<'a>(alloc: Global) -> Result<Command<'a>, AllocError>
     ensures { IfOk result (λ c. app_of c ≡ spec.check_app) }
@@ -90,7 +96,8 @@ fn replay<'a>(alloc: Global) -> Result<Command<'a>, AllocError>
     ensures { IfOk result (λ c. app_of c ≡ spec.replay_app) }
 {
     let command = with_text(bare(alloc, "replay"), alloc, "P")?;
-    with_text(command, alloc, "LOG")
+    let command = with_text(command, alloc, "LOG")?;
+    with_lanes(command, alloc)
 }
 
 #[tactic(auto, unfolding(crate::specs::Commands::record_app))]
@@ -99,6 +106,7 @@ fn record<'a>(alloc: Global) -> Result<Command<'a>, AllocError>
 {
     let command = with_text(bare(alloc, "record"), alloc, "P")?;
     let command = with_text(command, alloc, "LOG")?;
+    let command = with_lanes(command, alloc)?;
     with_events(command, alloc)
 }
 

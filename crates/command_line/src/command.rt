@@ -8,30 +8,32 @@ ghost use Rattle.command_line.specs.Requests.{request_for, request_of, request_w
 ghost use Rattle.command_line.specs.Words.{plain_word};
 
 use crate::apps::{Word, app_for, word_in};
-use crate::values::{events_in, number_in, text_in};
+use crate::values::{events_in, lanes_in, number_in, text_in};
 use clap::ArgMatches;
 use clap::error::ErrorKind;
 use std::alloc::Global;
 use vm_model::NoMemory;
 
 /// What the words of the command line ask for. The texts are names of files. `events` is the greatest number of events of a
-/// run, from 1 to 1,048,576.
+/// run, from 1 to 1,048,576; `lanes` is how many processors carry the program's threads, from 1 to 16.
 #[derive(Clone, Copy, Debug)]
 pub enum Command<'a> {
     /// To tell how much the program of this file has.
     Check {
         program: &'a str,
     },
-    /// To run the program of this file and store its log under that name.
+    /// To run the program of this file on so many lanes and store its log under that name.
     Record {
         program: &'a str,
         log: &'a str,
+        lanes: u64,
         events: u64,
     },
-    /// To run the program of this file by the log of that one.
+    /// To run the program of this file on so many lanes by the log of that one.
     Replay {
         program: &'a str,
         log: &'a str,
+        lanes: u64,
     },
     /// To print the state after the log's events below the clock, from 0 to 1,048,576.
     Show {
@@ -89,11 +91,13 @@ fn command_with<'a>(word: Word, matches: &ArgMatches<'a>) -> Command<'a>
         Word::Record => Command::Record {
             program: text_in(matches, "P"),
             log: text_in(matches, "LOG"),
+            lanes: lanes_in(matches),
             events: events_in(matches),
         },
         Word::Replay => Command::Replay {
             program: text_in(matches, "P"),
             log: text_in(matches, "LOG"),
+            lanes: lanes_in(matches),
         },
         Word::Show => Command::Show {
             program: text_in(matches, "P"),

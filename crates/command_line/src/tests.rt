@@ -55,17 +55,17 @@ const ROWS: &[Row] = &[
     Row {
         words: &["record", "P", "L"],
         is_command: true,
-        numbers: [1_048_576, 0, 0, 0],
+        numbers: [1, 1_048_576, 0, 0],
     },
     Row {
         words: &["record", "P", "L", "--events", "22"],
         is_command: true,
-        numbers: [22, 0, 0, 0],
+        numbers: [1, 22, 0, 0],
     },
     Row {
         words: &["record", "--events=22", "P", "L"],
         is_command: true,
-        numbers: [22, 0, 0, 0],
+        numbers: [1, 22, 0, 0],
     },
     Row {
         words: &["record", "P", "L", "--events"],
@@ -89,12 +89,37 @@ const ROWS: &[Row] = &[
     },
     Row {
         words: &["record", "P", "L", "--lanes", "2"],
+        is_command: true,
+        numbers: [2, 1_048_576, 0, 0],
+    },
+    Row {
+        words: &["record", "--lanes=16", "P", "--events", "3", "L"],
+        is_command: true,
+        numbers: [16, 3, 0, 0],
+    },
+    Row {
+        words: &["record", "P", "L", "--lanes", "0"],
+        is_command: false,
+        numbers: [0, 0, 0, 0],
+    },
+    Row {
+        words: &["record", "P", "L", "--lanes", "17"],
         is_command: false,
         numbers: [0, 0, 0, 0],
     },
     Row {
         words: &["replay", "P", "L"],
         is_command: true,
+        numbers: [1, 0, 0, 0],
+    },
+    Row {
+        words: &["replay", "P", "L", "--lanes", "4"],
+        is_command: true,
+        numbers: [4, 0, 0, 0],
+    },
+    Row {
+        words: &["run", "P", "S", "--lanes", "4"],
+        is_command: false,
         numbers: [0, 0, 0, 0],
     },
     Row {
@@ -198,7 +223,9 @@ const ROWS: &[Row] = &[
 /// The numbers of a command in its order, and zeros.
 fn numbers_of(command: Command<'_>) -> [u64; 4] {
     match command {
-        Command::Record { events, .. } | Command::Run { events, .. } => [events, 0, 0, 0],
+        Command::Record { lanes, events, .. } => [lanes, events, 0, 0],
+        Command::Replay { lanes, .. } => [lanes, 0, 0, 0],
+        Command::Run { events, .. } => [events, 0, 0, 0],
         Command::Show { clock, .. } => [clock, 0, 0, 0],
         Command::Seek {
             seed,
@@ -213,10 +240,7 @@ fn numbers_of(command: Command<'_>) -> [u64; 4] {
             ..
         } => [tests, workers, events, 0],
         Command::Drill { workers, .. } => [workers, 0, 0, 0],
-        Command::Check { .. }
-        | Command::Replay { .. }
-        | Command::Derive { .. }
-        | Command::Unknown => [0, 0, 0, 0],
+        Command::Check { .. } | Command::Derive { .. } | Command::Unknown => [0, 0, 0, 0],
     }
 }
 

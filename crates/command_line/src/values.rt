@@ -53,3 +53,12 @@ pub(crate) fn events_in<'a>(matches: &ArgMatches<'a>) -> u64
 {
     number_in(matches, "events", 1, 1_048_576)
 }
+
+/// On how many lanes a program runs.
+pub(crate) fn lanes_in<'a>(matches: &ArgMatches<'a>) -> u64
+    ensures value { result ≡ spec.lanes_in (rows_of (found_of matches.now)) }
+    ensures low { 1 ≤ result }
+    ensures high { result ≤ 16 }
+{
+    number_in(matches, "lanes", 1, 16)
+}

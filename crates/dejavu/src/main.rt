@@ -2,6 +2,7 @@
 #![tactic(auto)]
 
 use dejavu_tool::{Status, dejavu};
+use gate_core::NoMeeting;
 use std::alloc::Global;
 use std::env::{self, Env};
 use std::io;
@@ -28,6 +29,7 @@ fn main(rt: HostRuntime) -> ExitCode {
             &words,
             &mut DiskFolder::new(&rt),
             &mut OutSink::new(&rt),
+            &NoMeeting,
         ),
         Err(status) => status,
     };

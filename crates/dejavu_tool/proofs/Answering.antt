@@ -72,8 +72,8 @@ usage_no c _ text quiet h = h
 
 no_stop : (asked : Request) (c : FolderCall) (answer : Status) (text : List ℕ) → IsNoStop answer → Stops asked c answer text → ⊥
 no_stop (Check program) c answer text quiet h = program_no c program answer text quiet h.1
-no_stop (Record program log events) c answer text quiet h = program_no c program answer text quiet h.1
-no_stop (Replay program log) c answer text quiet h =
+no_stop (Record program log lanes events) c answer text quiet h = program_no c program answer text quiet h.1
+no_stop (Replay program log lanes) c answer text quiet h =
     ⊎_elim (program_no c program answer text quiet)
     (λ b. ⊎_elim (λ (a : AtLog c program log answer text). log_no c log answer text quiet a.stop) (λ (a : StopsAfterLog c program log (λ p l. RunStops p l answer text)). run_no a.of_program a.of_log answer text quiet a.stop) b) h.1
 no_stop (Show program log clock) c answer text quiet h =
@@ -125,8 +125,8 @@ put_stop asked given c s h st line shown answer same is_told is d put =
     let so : Stops asked c st shown = subst (λ (t : List ℕ). Stops asked c st t) (sym is) (subst (λ (r : Request). Stops r c st line.items) same told) in
     when_put asked c s st shown answer (stop_tells asked c st shown so) put
 
-recorded_so : (c : FolderCall) (s : SinkCall) (program log : List ℕ) (events : ℕ) (text : List ℕ) → Records c program log events text → Puts s text → IsTrue c.told → IsTrue s.told → IsFinishedRecording c s program log events
-recorded_so c s program log events text r p told told' = record {
+recorded_so : (c : FolderCall) (s : SinkCall) (program log : List ℕ) (lanes events : ℕ) (text : List ℕ) → Records c program log lanes events text → Puts s text → IsTrue c.told → IsTrue s.told → IsFinishedRecording c s program log lanes events
+recorded_so c s program log lanes events text r p told told' = record {
   printed = text;
   run = record {
     text = r.loads.text;
@@ -193,13 +193,13 @@ check_holds (Check program) c s answer a =
 check_holds _ c s answer a = tt
 
 pub recording_holds : (asked : Request) (c : FolderCall) (s : SinkCall) (answer : Status) → Answers asked c s answer → RecordingHolds asked c s answer
-recording_holds (Record program log events) c s answer a =
-    λ e told told'. let so = subst (λ (x : Status). Answers (Record program log events) c s x) e a in recorded_so c s program log events so.text so.tells so.printed told told'
+recording_holds (Record program log lanes events) c s answer a =
+    λ e told told'. let so = subst (λ (x : Status). Answers (Record program log lanes events) c s x) e a in recorded_so c s program log lanes events so.text so.tells so.printed told told'
 recording_holds _ c s answer a = tt
 
 pub replay_holds : (asked : Request) (c : FolderCall) (s : SinkCall) (answer : Status) → Answers asked c s answer → ReplayHolds asked c s answer
-replay_holds (Replay program log) c s answer a =
-    λ e told told'. let so = subst (λ (x : Status). Answers (Replay program log) c s x) e a in replayed_so c s program log so.text so.tells so.printed told told'
+replay_holds (Replay program log lanes) c s answer a =
+    λ e told told'. let so = subst (λ (x : Status). Answers (Replay program log lanes) c s x) e a in replayed_so c s program log so.text so.tells so.printed told told'
 replay_holds _ c s answer a = tt
 
 pub show_holds : (asked : Request) (c : FolderCall) (s : SinkCall) (answer : Status) → Answers asked c s answer → ShowHolds asked c s answer

@@ -1,5 +1,5 @@
 -- Where nothing stands in the way, no other status can come.
-use Rattle.std.proofs.Common.{◌≡◌, ℕ, zero, suc, ◌+◌, ◌<◌, true, false, List, [], ◌∷◌, Option, Some, None, Result, Ok, Err, refl, sym, subst, ◌∙◌, ap, ◌⊎◌, inl, inr, ⊎_elim, take, arith, IsTrue}
+use Rattle.std.proofs.Common.{◌≡◌, ℕ, zero, suc, ◌+◌, ◌<◌, true, false, List, [], ◌∷◌, Option, Some, None, Result, Ok, Err, refl, sym, subst, ◌∙◌, ap, inl, inr, ⊎_elim, take, arith, IsTrue}
 use Rattle.std.specs.Prelude.{slice_get, option_map}
 use Rattle.vm_model.specs.Ends.{kind_of_end}
 use Rattle.vm_model.specs.Program.{PlainProgram}
@@ -9,14 +9,13 @@ use Rattle.schedule_log.specs.Logs.{PlainLog, expansion}
 use Rattle.schedule_log.specs.Reading.{read_log}
 use Rattle.thread_driver.specs.Answers.{DivergesBefore}
 use Rattle.thread_driver.specs.Recordings.{Diverges}
-use Rattle.vm_model.specs.declared.ends.End.{End}
 use Rattle.vm_model.specs.declared.ends.End.TheVariants as end
 use Rattle.machine_model.specs.Ring.{schedule_threads}
 use Rattle.schedule_model.specs.Outcomes.{end_under}
-use Rattle.switch_schedule.specs.Searches.{NoneBelow, ends_in_fault, try_times}
+use Rattle.switch_schedule.specs.Searches.{NoneBelow}
 use Rattle.switch_schedule.specs.Texts.{SpellsSchedule}
 use Rattle.switch_schedule.proofs.First.{one-schedule, spelled-faultless}
-use Rattle.program_isolator.specs.Isolations.{EndsSo, IsNoFault, NeedsMore, tests_between}
+use Rattle.program_isolator.specs.Isolations.{NeedsMore, tests_between}
 use Rattle.command_line.specs.Requests.{Request, Check, Record, Replay, Show, Derive, Run, Seek, Isolate, Drill, Unknown}
 use Rattle.drill_program.specs.Texts.{drill_text}
 use Rattle.dejavu_tool.specs.declared.status.Status.{Status}
@@ -218,8 +217,8 @@ drill_stops c workers program _ text p is h = h
 
 stops_never : (asked : Request) (c : FolderCall) (s : SinkCall) (answer : Status) (text : List ℕ) → CanDo asked c s → Stops asked c answer text → ⊥
 stops_never (Check program) c s answer text can h = program_stops c s program answer text can.has can.free h.1
-stops_never (Record program log events) c s answer text can h = program_stops c s program answer text can.has can.free h.1
-stops_never (Replay program log) c s answer text can h =
+stops_never (Record program log lanes events) c s answer text can h = program_stops c s program answer text can.has can.free h.1
+stops_never (Replay program log lanes) c s answer text can h =
     ⊎_elim (program_stops c s program answer text can.has can.free)
     (λ b. ⊎_elim (λ (a : AtLog c program log answer text). log_stops c s log answer text can.has.told can.has_log can.free a.stop) (run_stops c program log answer text can.has can.has_log can.runs) b) h.1
 stops_never (Show program log clock) c s answer text can h =
@@ -243,8 +242,8 @@ stops_never Unknown c s answer text can h = can
 
 store_never : (asked : Request) (c : FolderCall) (s : SinkCall) → CanDo asked c s → StoreIsLost asked c → ⊥
 store_never (Check program) c s can h = h
-store_never (Record program log events) c s can h = can.no_store h.stop.fault
-store_never (Replay program log) c s can h = h
+store_never (Record program log lanes events) c s can h = can.no_store h.stop.fault
+store_never (Replay program log lanes) c s can h = h
 store_never (Show program log clock) c s can h = h
 store_never (Run program schedule events) c s can h = h
 store_never (Drill workers program) c s can h = can.no_store h.fault
@@ -255,8 +254,8 @@ store_never Unknown c s can h = can
 
 unhindered : (asked : Request) (c : FolderCall) (s : SinkCall) → CanDo asked c s → IsUnhindered c s
 unhindered (Check program) c s can = can.free
-unhindered (Record program log events) c s can = can.free
-unhindered (Replay program log) c s can = can.free
+unhindered (Record program log lanes events) c s can = can.free
+unhindered (Replay program log lanes) c s can = can.free
 unhindered (Show program log clock) c s can = can.free
 unhindered (Run program schedule events) c s can = can.free
 unhindered (Drill workers program) c s can = can.free

@@ -1,14 +1,13 @@
 -- Calls that only read, and then one more.
-use Rattle.std.proofs.Common.{◌≡◌, ◌≤◌, ℕ, List, refl, sym, subst, ◌∙◌, IsTrue}
+use Rattle.std.proofs.Common.{◌≡◌, ℕ, List, sym, subst, ◌∙◌, IsTrue}
 use Rattle.vm_model.specs.Program.{PlainProgram}
 use Rattle.schedule_log.specs.Logs.{PlainLog}
 use Rattle.command_line.specs.Requests.{Derive, Record, Seek}
 use Rattle.dejavu_tool.specs.declared.halt.Halt.{Halt}
 use Rattle.dejavu_tool.specs.declared.halt.Halt.TheVariants as halt
 use Rattle.dejavu_tool.specs.declared.status.Status.{Status}
-use Rattle.dejavu_tool.specs.declared.status.Status.TheVariants as status
 use Rattle.dejavu_tool.specs.Answers.{LosesFile}
-use Rattle.dejavu_tool.specs.Calls.{FolderCall, IsUntouched, Stores}
+use Rattle.dejavu_tool.specs.Calls.{FolderCall, IsUntouched}
 use Rattle.dejavu_tool.specs.Files.{LoadsLog, LoadsProgram}
 use Rattle.dejavu_tool.specs.Stages.{Halts, HaltsBy, StoreHalts}
 
@@ -38,10 +37,10 @@ loses_file b d c name k h = record {
 }
 
 -- a recording that isn't stored
-pub then_store : (b d c : FolderCall) (program log : List ℕ) (events : ℕ) (p : PlainProgram) (h : Halt) → Composed b d c → LoadsProgram b program p → StoreHalts d log h → Halts (Record program log events) c h
-then_store b d c program log events p (halt.Told st line) k l h = absurd h
-then_store b d c program log events p halt.Memory k l h = untouched b d c k h
-then_store b d c program log events p halt.Store k l h = record { of_program = p; loads = loads_program b d c program p k l; stop = loses_file b d c log k h }
+pub then_store : (b d c : FolderCall) (program log : List ℕ) (lanes events : ℕ) (p : PlainProgram) (h : Halt) → Composed b d c → LoadsProgram b program p → StoreHalts d log h → Halts (Record program log lanes events) c h
+then_store b d c program log lanes events p (halt.Told st line) k l h = absurd h
+then_store b d c program log lanes events p halt.Memory k l h = untouched b d c k h
+then_store b d c program log lanes events p halt.Store k l h = record { of_program = p; loads = loads_program b d c program p k l; stop = loses_file b d c log k h }
 
 pub loads_log : (b d c : FolderCall) (name : List ℕ) (l : PlainLog) → Composed b d c → LoadsLog b name l → LoadsLog c name l
 loads_log b d c name l k h = record { bytes = h.bytes; loaded = λ t. k.before name ∙ h.loaded (subst IsTrue k.c_told t); spelled = h.spelled }

@@ -1,5 +1,5 @@
 -- What one of several calls that only read found, of the whole.
-use Rattle.std.proofs.Common.{◌≡◌, ◌≤◌, ◌<◌, ℕ, List, Result, Ok, Err, refl, sym, subst, ◌∙◌, IsTrue, ◌⊎◌, inl, inr, ⊎_elim, arith}
+use Rattle.std.proofs.Common.{◌≡◌, ◌≤◌, ℕ, List, Result, Ok, Err, subst, ◌∙◌, IsTrue, inl, inr, ⊎_elim, arith}
 use Rattle.std.specs.Prelude.{IfErr, IfOk}
 use Rattle.vm_model.specs.Program.{PlainProgram}
 use Rattle.schedule_log.specs.Logs.{PlainLog}

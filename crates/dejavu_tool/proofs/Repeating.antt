@@ -52,16 +52,16 @@ same_files before logs other_before other_logs program log other_program other_l
     same_run r.of_program o.of_program r.of_log o.of_log r.machine o.machine r.end o.end printed also same_p same_l r.runs o.runs r.ended o.ended r.prints o.prints
 
 -- the replay of a recording tells what the recording told
-pub tells_again : {V E : Type 0} (r : Result V E) (text : V → List ℕ) (p q : PlainProgram) (budget : ℕ) (bytes printed : List ℕ) (log again : PlainLog) (n k : ℕ) (e : End) (output shown : List ℕ)
-    → TellsRecording p budget bytes printed → Spells log bytes → IsRecording p again output e → again ≡ log → q ≡ p → n ≡ events again → k ≡ length again.intervals → shown ≡ output
-    → IfOk r (λ v. text v ≡ run_text q n k e shown) → IfOk r (λ v. TellsRecording p budget bytes (text v))
-tells_again (Ok v) text p q budget bytes printed log again n k e output shown recorded spelled run same is_p is_n is_k is_shown h =
+pub tells_again : {V E : Type 0} (r : Result V E) (text : V → List ℕ) (p q : PlainProgram) (lanes budget : ℕ) (bytes printed : List ℕ) (log again : PlainLog) (n k : ℕ) (e : End) (output shown : List ℕ)
+    → TellsRecording p lanes budget bytes printed → Spells log bytes → IsRecording p again output e → again ≡ log → q ≡ p → n ≡ events again → k ≡ length again.intervals → shown ≡ output
+    → IfOk r (λ v. text v ≡ run_text q n k e shown) → IfOk r (λ v. TellsRecording p lanes budget bytes (text v))
+tells_again (Ok v) text p q lanes budget bytes printed log again n k e output shown recorded spelled run same is_p is_n is_k is_shown h =
     let one : again ≡ recorded.log = same ∙ same_ok (read_log bytes) log recorded.log (spelled_is_read log bytes spelled) (spelled_is_read recorded.log bytes recorded.spelled) in
     record {
       log = again;
       spelled = subst (λ (l : PlainLog). Spells l bytes) (sym same) spelled;
       budget_is = ap (λ (l : PlainLog). l.budget) one ∙ recorded.budget_is;
-      scheduled = ap expansion one ∙ recorded.scheduled;
+      scheduled = λ e. ap expansion one ∙ recorded.scheduled e;
       run = record {
         machine = run.machine;
         runs = run.runs;
@@ -71,4 +71,4 @@ tells_again (Ok v) text p q budget bytes printed log again n k e output shown re
         prints = h ∙ ap (λ (x : PlainProgram). run_text x n k e shown) is_p ∙ ap (λ (x : ℕ). run_text p x k e shown) is_n ∙ ap (λ (x : ℕ). run_text p (events again) x e shown) is_k ∙ ap (λ (x : List ℕ). run_text p (events again) (length again.intervals) e x) is_shown ∙ ap (λ (x : List ℕ). run_text p (events again) (length again.intervals) e x) run.printed;
       };
     }
-tells_again (Err x) text p q budget bytes printed log again n k e output shown recorded spelled run same is_p is_n is_k is_shown h = tt
+tells_again (Err x) text p q lanes budget bytes printed log again n k e output shown recorded spelled run same is_p is_n is_k is_shown h = tt

@@ -25,11 +25,11 @@ pub record Checks (c : FolderCall) (program printed : List ℕ) : Type 0 where
   pub untouched : IsUntouched c
 
 -- a recording: the log is stored, no other file changes, and the run is printed
-pub record Records (c : FolderCall) (program log : List ℕ) (events : ℕ) (printed : List ℕ) : Type 0 where
+pub record Records (c : FolderCall) (program log : List ℕ) (lanes events : ℕ) (printed : List ℕ) : Type 0 where
   pub of_program : PlainProgram
   pub loads : LoadsProgram c program of_program
   pub bytes : List ℕ
-  pub run : TellsRecording of_program events bytes printed
+  pub run : TellsRecording of_program lanes events bytes printed
   pub stored : Stores c log bytes
 
 -- a replay: no file changes, and the run of the log is printed
@@ -94,7 +94,7 @@ pub record TellsDrill (text : List ℕ) (workers : ℕ) (printed : List ℕ) : T
   pub accepted : IsAccepted text of_program
   pub bytes : List ℕ
   pub run_printed : List ℕ
-  pub run : TellsRecording of_program MOST_EVENTS bytes run_printed
+  pub run : TellsRecording of_program 1 MOST_EVENTS bytes run_printed
   pub prints : printed ≡ count_line (codes "drill ") workers ++ run_printed
 
 -- the drill's program is stored, no other file changes, and the recording of it is printed
@@ -153,11 +153,17 @@ UsageStops c _ printed = ⊥
 
 -- ---- the commands
 
+-- the same, with no lane beside the first
+abbrev pub on_one_lane : Request → Request
+on_one_lane (Record program log lanes events) = Record program log 1 events
+on_one_lane (Replay program log lanes) = Replay program log 1
+on_one_lane asked = asked
+
 -- what is asked for is done, and this is printed
 abbrev pub Does : Request → FolderCall → List ℕ → Type 0
 Does (Check program) c printed = Checks c program printed
-Does (Record program log events) c printed = Records c program log events printed
-Does (Replay program log) c printed = Replays c program log printed
+Does (Record program log lanes events) c printed = Records c program log lanes events printed
+Does (Replay program log lanes) c printed = Replays c program log printed
 Does (Show program log clock) c printed = Shows c program log clock printed
 Does (Run program schedule events) c printed = Runs c program schedule events printed
 Does (Derive program log schedule) c printed = Derives c program log schedule printed
@@ -169,8 +175,8 @@ Does Unknown c printed = ⊥
 -- the first thing in the way of what is asked for: its status, and its line
 abbrev pub Stops : Request → FolderCall → Status → List ℕ → Type 0
 Stops (Check program) c status printed = IsUntouched c × ProgramStops c program status printed
-Stops (Record program log events) c status printed = IsUntouched c × ProgramStops c program status printed
-Stops (Replay program log) c status printed =
+Stops (Record program log lanes events) c status printed = IsUntouched c × ProgramStops c program status printed
+Stops (Replay program log lanes) c status printed =
     IsUntouched c × (ProgramStops c program status printed ⊎ (AtLog c program log status printed ⊎ StopsAfterLog c program log (λ p l. RunStops p l status printed)))
 Stops (Show program log clock) c status printed =
     IsUntouched c × (ProgramStops c program status printed ⊎ (AtLog c program log status printed ⊎ StopsAfterLog c program log (λ p l. StateStops p l clock status printed)))
@@ -201,7 +207,7 @@ pub record LosesFile (c : FolderCall) (name : List ℕ) : Type 0 where
 
 -- what was to be stored wasn't
 abbrev pub StoreIsLost : Request → FolderCall → Type 0
-StoreIsLost (Record program log events) c = StopsAfterProgram c program (λ p. LosesFile c log)
+StoreIsLost (Record program log lanes events) c = StopsAfterProgram c program (λ p. LosesFile c log)
 StoreIsLost (Derive program log schedule) c = StopsAfterLog c program log (λ p l. LosesFile c schedule)
 StoreIsLost (Seek program seed tries schedule events) c = StopsAfterProgram c program (λ p. LosesFile c schedule)
 StoreIsLost (Drill workers program) c = LosesFile c program

@@ -129,8 +129,8 @@ pub record CanDrill (c : FolderCall) (s : SinkCall) (workers : ℕ) : Type 0 whe
 -- nothing stands in the way of what is asked for
 abbrev pub CanDo : Request → FolderCall → SinkCall → Type 0
 CanDo (Check program) c s = CanCheck c s program
-CanDo (Record program log events) c s = CanRecord c s program
-CanDo (Replay program log) c s = CanReplay c s program log
+CanDo (Record program log lanes events) c s = CanRecord c s program
+CanDo (Replay program log lanes) c s = CanReplay c s program log
 CanDo (Show program log clock) c s = CanShow c s program log clock
 CanDo (Run program schedule events) c s = CanRun c s program schedule events
 CanDo (Derive program log schedule) c s = CanDerive c s program log

@@ -38,13 +38,13 @@ pub record IsRunOfFiles (before logs : List ℕ → Option (List ℕ)) (program 
   pub kind : of_log.end ≡ kind_of_end end
   pub prints : printed ≡ run_text of_program (events of_log) (length of_log.intervals) end machine.world.output
 
--- The log that is under LOG afterwards is of the run by the ring without switches, of at most so many events. No other file
--- changed.
-pub record IsFinishedRecording (c : FolderCall) (s : SinkCall) (program log : List ℕ) (events : ℕ) : Type 0 where
+-- The log that is under LOG afterwards is of one run, of at most so many events, however many lanes carried it; on one lane it
+-- is the run by the ring without switches. No other file changed.
+pub record IsFinishedRecording (c : FolderCall) (s : SinkCall) (program log : List ℕ) (lanes events : ℕ) : Type 0 where
   pub printed : List ℕ
   pub run : IsRunOfFiles c.before c.after program log printed
   pub budget : run.of_log.budget ≡ events
-  pub scheduled : expansion run.of_log ≡ schedule_threads run.of_program [] events
+  pub scheduled : lanes ≡ 1 → expansion run.of_log ≡ schedule_threads run.of_program [] events
   pub stored : SetsFile c.before c.after log run.bytes
   pub puts : s.after ≡ s.before ++ printed
 
@@ -69,11 +69,11 @@ CheckHolds (Check program) c s answer = answer ≡ status.Ok → IsTrue c.told �
 CheckHolds _ c s answer = Unit {0}
 
 abbrev pub RecordingHolds : Request → FolderCall → SinkCall → Status → Type 0
-RecordingHolds (Record program log events) c s answer = answer ≡ status.Ok → IsTrue c.told → IsTrue s.told → IsFinishedRecording c s program log events
+RecordingHolds (Record program log lanes events) c s answer = answer ≡ status.Ok → IsTrue c.told → IsTrue s.told → IsFinishedRecording c s program log lanes events
 RecordingHolds _ c s answer = Unit {0}
 
 abbrev pub ReplayHolds : Request → FolderCall → SinkCall → Status → Type 0
-ReplayHolds (Replay program log) c s answer = answer ≡ status.Ok → IsTrue c.told → IsTrue s.told → IsFinishedReplay c s program log
+ReplayHolds (Replay program log lanes) c s answer = answer ≡ status.Ok → IsTrue c.told → IsTrue s.told → IsFinishedReplay c s program log
 ReplayHolds _ c s answer = Unit {0}
 
 -- this was done, and what is printed of it was put, and nothing else
@@ -110,6 +110,6 @@ DrillHolds _ c s answer = Unit {0}
 
 -- A replay, whatever the names of its files, prints what the recording of its log printed, where the program's text is the same.
 abbrev pub ReplayPrintsRecording : Type 0
-ReplayPrintsRecording = (c d : FolderCall) (s t : SinkCall) (program log other_program other_log : List ℕ) (events : ℕ)
-    → (recording : IsFinishedRecording c s program log events) → (replay : IsFinishedReplay d t other_program other_log)
+ReplayPrintsRecording = (c d : FolderCall) (s t : SinkCall) (program log other_program other_log : List ℕ) (lanes events : ℕ)
+    → (recording : IsFinishedRecording c s program log lanes events) → (replay : IsFinishedReplay d t other_program other_log)
     → c.before program ≡ d.before other_program → c.after log ≡ d.before other_log → replay.printed ≡ recording.printed

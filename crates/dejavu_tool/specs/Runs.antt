@@ -34,13 +34,13 @@ pub record TellsRun (p : PlainProgram) (log : PlainLog) (printed : List ℕ) : T
   pub kind : log.end ≡ kind_of_end end
   pub prints : printed ≡ run_text p (events log) (length log.intervals) end machine.world.output
 
--- the bytes spell the log of the program's run by the ring without switches, of at most so many events, and that run is what is
--- printed
-pub record TellsRecording (p : PlainProgram) (budget : ℕ) (bytes printed : List ℕ) : Type 0 where
+-- The bytes spell the log of a run of the program, of at most so many events, and that run is what is printed. On one lane it
+-- is the run by the ring without switches.
+pub record TellsRecording (p : PlainProgram) (lanes budget : ℕ) (bytes printed : List ℕ) : Type 0 where
   pub log : PlainLog
   pub spelled : Spells log bytes
   pub budget_is : log.budget ≡ budget
-  pub scheduled : expansion log ≡ schedule_threads p [] budget
+  pub scheduled : lanes ≡ 1 → expansion log ≡ schedule_threads p [] budget
   pub run : TellsRun p log printed
 
 -- the run of a schedule, of at most so many events, is what is printed

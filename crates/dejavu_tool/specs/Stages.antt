@@ -5,7 +5,7 @@ use Rattle.dejavu_tool.specs.declared.halt.Halt.{Halt}
 use Rattle.dejavu_tool.specs.declared.halt.Halt.TheVariants as halt
 use Rattle.dejavu_tool.specs.declared.status.Status.{Status}
 use Rattle.dejavu_tool.specs.declared.status.Status.TheVariants as status
-use Rattle.dejavu_tool.specs.Calls.{FolderCall, SinkCall, IsUntouched, StoreFails, Puts, PutFails}
+use Rattle.dejavu_tool.specs.Calls.{FolderCall, SinkCall, IsUntouched, Puts, PutFails}
 use Rattle.dejavu_tool.specs.Answers.{LeavesFiles, LosesFile, StoreIsLost, Stops}
 use Rattle.dejavu_tool.specs.Files.{RefusesBytes, RefusesText, RefusesTimes}
 use Rattle.dejavu_tool.specs.Lines.{usage_line}

@@ -27,7 +27,7 @@ use vm_model::{MOST_EVENTS, NoMemory, Plain};
 
 /// The log of a recording, read from its bytes.
 fn log_of(alloc: Global, plain: &Plain, run: &Recorded) -> Result<Log, NoMemory>
-    requires { TellsRecording plain.now MOST_EVENTS run.now.bytes.items run.now.text.items }
+    requires { TellsRecording plain.now 1 MOST_EVENTS run.now.bytes.items run.now.text.items }
     ensures { IfOk result (λ log. Spells log run.now.bytes.items) }
 {
     match decode(alloc, &run.bytes) {
@@ -39,7 +39,7 @@ fn log_of(alloc: Global, plain: &Plain, run: &Recorded) -> Result<Log, NoMemory>
 
 /// The run of a recording once more, by its log.
 fn run_again(alloc: Global, plain: &Plain, run: &Recorded, log: &Log) -> Result<Recording, NoMemory>
-    requires recorded { TellsRecording plain.now MOST_EVENTS run.now.bytes.items run.now.text.items }
+    requires recorded { TellsRecording plain.now 1 MOST_EVENTS run.now.bytes.items run.now.text.items }
     requires spelled { Spells log.now run.now.bytes.items }
     ensures recording { IfOk result (λ r. IsRecording plain.now r.log r.output.items r.end) }
     ensures log { IfOk result (λ r. r.log ≡ log.now) }
@@ -58,8 +58,8 @@ fn run_again(alloc: Global, plain: &Plain, run: &Recorded, log: &Log) -> Result<
 
 /// What is printed of the replay of a recording.
 fn replayed(alloc: Global, plain: &Plain, run: &Recorded) -> Result<Vec<u8>, NoMemory>
-    requires { TellsRecording plain.now MOST_EVENTS run.now.bytes.items run.now.text.items }
-    ensures { IfOk result (λ text. TellsRecording plain.now MOST_EVENTS run.now.bytes.items text.items) }
+    requires { TellsRecording plain.now 1 MOST_EVENTS run.now.bytes.items run.now.text.items }
+    ensures { IfOk result (λ text. TellsRecording plain.now 1 MOST_EVENTS run.now.bytes.items text.items) }
 {
     let log = log_of(alloc, plain, run)?;
     let again = run_again(alloc, plain, run, &log)?;

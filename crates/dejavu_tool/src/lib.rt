@@ -21,4 +21,4 @@ mod top;
 
 pub use programs::{ProgramFault, accept, linked_program};
 pub use status::Status;
-pub use top::dejavu;
+pub use top::{dejavu, still_command};

@@ -1,7 +1,9 @@
 //! The commands over files and a sink in memory: words, files before, calls that fail, and what must come of it.
 
 use dejavu_tool::{Status, dejavu};
+use gate_core::NoMeeting;
 use std::alloc::Global;
+use std::sync::Wait;
 use std::test::Fail;
 use std::thread::Threads;
 use tool_io::{Folder, MemoryFolder, MemorySink, Store};
@@ -68,6 +70,45 @@ struct Row {
 }
 
 const RECORDINGS: &[Row] = &[
+    Row {
+        words: &["record", "P", "L", "--lanes", "4"],
+        files: &[File {
+            name: "P",
+            bytes: SUM,
+        }],
+        folder: &[],
+        sink: &[],
+        status: Status::Ok,
+        text: SUM_TEXT,
+        stored: Some(File {
+            name: "L",
+            bytes: SUM_LOG,
+        }),
+    },
+    Row {
+        words: &["record", "P", "L", "--lanes", "16", "--events", "22"],
+        files: &[File {
+            name: "P",
+            bytes: SUM,
+        }],
+        folder: &[],
+        sink: &[],
+        status: Status::Ok,
+        text: b"events 22\nintervals 1\nend spent\noutput 3\n55\n",
+        stored: Some(File {
+            name: "L",
+            bytes: b"\x44\x4A\x56\x4C\x01\x16\x01\x01\x00\x15\xF3",
+        }),
+    },
+    Row {
+        words: &["record", "P", "L", "--lanes", "2"],
+        files: &[],
+        folder: &[],
+        sink: &[],
+        status: Status::Absent,
+        text: b"absent P\n",
+        stored: None,
+    },
     Row {
         words: &["record", "P", "L"],
         files: &[File {
@@ -312,7 +353,7 @@ const WORDS: &[Row] = &[
         stored: None,
     },
     Row {
-        words: &["record", "P", "L", "--lanes", "2"],
+        words: &["record", "P", "L", "--lanes", "17"],
         files: &[File {
             name: "P",
             bytes: SUM,
@@ -338,6 +379,96 @@ const WORDS: &[Row] = &[
 ];
 
 const REPLAYS: &[Row] = &[
+    Row {
+        words: &["replay", "P", "L", "--lanes", "2"],
+        files: &[
+            File {
+                name: "P",
+                bytes: WRITERS,
+            },
+            File {
+                name: "L",
+                bytes: WRITERS_LOG,
+            },
+        ],
+        folder: &[],
+        sink: &[],
+        status: Status::Ok,
+        text: b"events 14\nintervals 4\nend done\noutput 0\n",
+        stored: None,
+    },
+    Row {
+        words: &["replay", "P", "L", "--lanes", "16"],
+        files: &[
+            File {
+                name: "P",
+                bytes: WRITERS,
+            },
+            File {
+                name: "L",
+                bytes: SWITCHED_LOG,
+            },
+        ],
+        folder: &[],
+        sink: &[],
+        status: Status::Ok,
+        text: b"events 14\nintervals 5\nend done\noutput 0\n",
+        stored: None,
+    },
+    Row {
+        words: &["replay", "P", "L", "--lanes", "3"],
+        files: &[
+            File {
+                name: "P",
+                bytes: SUM,
+            },
+            File {
+                name: "L",
+                bytes: b"\x44\x4A\x56\x4C\x01\x80\x80\x40\x01\x01\x00\x17\xF0",
+            },
+        ],
+        folder: &[],
+        sink: &[],
+        status: Status::Diverged,
+        text: b"diverged at 23 thread 0\n",
+        stored: None,
+    },
+    Row {
+        words: &["replay", "P", "L", "--lanes", "2"],
+        files: &[
+            File {
+                name: "P",
+                bytes: SUM,
+            },
+            File {
+                name: "L",
+                bytes: b"\x44\x4A\x56\x4C\x01\x80\x80\x40\x02\x01\x00\x00\x01\x01\x00\xF0",
+            },
+        ],
+        folder: &[],
+        sink: &[],
+        status: Status::Diverged,
+        text: b"diverged at 1 thread 1\n",
+        stored: None,
+    },
+    Row {
+        words: &["replay", "P", "L", "--lanes", "4"],
+        files: &[
+            File {
+                name: "P",
+                bytes: SHORTEST,
+            },
+            File {
+                name: "L",
+                bytes: b"\x44\x4A\x56\x4C\x01\x80\x80\x40\x01\x01\x00\x00\xF2",
+            },
+        ],
+        folder: &[],
+        sink: &[],
+        status: Status::Diverged,
+        text: b"diverged at 1 at the end\n",
+        stored: None,
+    },
     Row {
         words: &["replay", "P", "L"],
         files: &[
@@ -1339,11 +1470,11 @@ fn is_stored(folder: &MemoryFolder, row: &Row) -> bool {
 }
 
 /// Whether a row's words give what it says.
-fn is_right<H: Threads + Sync>(rt: &H, alloc: Global, row: &Row) -> Result<bool, Fail> {
+fn is_right<H: Threads + Wait + Sync>(rt: &H, alloc: Global, row: &Row) -> Result<bool, Fail> {
     let words = words_of(alloc, row)?;
     let mut folder = folder_of(alloc, row)?;
     let mut sink = MemorySink::new(alloc, Vec::from_slice(alloc, row.sink)?)?;
-    let status = dejavu(rt, alloc, &words, &mut folder, &mut sink);
+    let status = dejavu(rt, alloc, &words, &mut folder, &mut sink, &NoMeeting);
     Ok(status == row.status && sink.taken() == row.text && is_stored(&folder, row))
 }
 

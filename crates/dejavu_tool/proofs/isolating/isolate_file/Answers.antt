@@ -1,5 +1,5 @@
 -- Three loads only read.
-use Rattle.std.proofs.Common.{◌≡◌, ◌≤◌, ℕ, List, refl, sym, subst, ◌∙◌, arith}
+use Rattle.std.proofs.Common.{refl, sym, subst, ◌∙◌, arith}
 use Rattle.std.proofs.lemmas.Result.{err_from_is_err_and}
 use Rattle.vm_model.specs.Program.{PlainProgram}
 use Rattle.dejavu_tool.specs.Calls.{folder_call}

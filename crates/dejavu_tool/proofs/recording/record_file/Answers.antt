@@ -16,7 +16,7 @@ returns-in_err-store_file-clause-halts g c =
     (folder_call told file loads stores c.args.folder.now c.load_program.new.folder)
     (folder_call told file loads stores c.load_program.new.folder c.store_file.new.folder)
     (folder_call told file loads stores c.args.folder.now c.store_file.new.folder)
-    c.args.program.now c.args.log.now c.args.events c.in_ok-shaped.shaped c.in_err-store_file.field-0.0
+    c.args.program.now c.args.log.now 1 c.args.events c.in_ok-shaped.shaped c.in_err-store_file.field-0.0
     (record {
       told = c.load_program.ensures.told;
       c_told = refl;

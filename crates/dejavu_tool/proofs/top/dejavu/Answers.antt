@@ -4,31 +4,31 @@ use Rattle.dejavu_tool.proofs.Completing.{is_complete}
 use Rattle.dejavu_tool.proofs.top.dejavu.Goals as goal
 
 pub returns-clause-check : goal.returns-clause-check
-returns-clause-check g c = check_holds _ _ _ _ c.answered.ensures
+returns-clause-check g c = check_holds _ _ _ _ c.answered_by_lanes.ensures
 
 pub returns-clause-recording : goal.returns-clause-recording
-returns-clause-recording g c = recording_holds _ _ _ _ c.answered.ensures
+returns-clause-recording g c = recording_holds _ _ _ _ c.answered_by_lanes.ensures
 
 pub returns-clause-replay : goal.returns-clause-replay
-returns-clause-replay g c = replay_holds _ _ _ _ c.answered.ensures
+returns-clause-replay g c = replay_holds _ _ _ _ c.answered_by_lanes.ensures
 
 pub returns-clause-show : goal.returns-clause-show
-returns-clause-show g c = show_holds _ _ _ _ c.answered.ensures
+returns-clause-show g c = show_holds _ _ _ _ c.answered_by_lanes.ensures
 
 pub returns-clause-run : goal.returns-clause-run
-returns-clause-run g c = run_holds _ _ _ _ c.answered.ensures
+returns-clause-run g c = run_holds _ _ _ _ c.answered_by_lanes.ensures
 
 pub returns-clause-drill : goal.returns-clause-drill
-returns-clause-drill g c = drill_holds _ _ _ _ c.answered.ensures
+returns-clause-drill g c = drill_holds _ _ _ _ c.answered_by_lanes.ensures
 
 pub returns-clause-derive : goal.returns-clause-derive
-returns-clause-derive g c = derive_holds _ _ _ _ c.answered.ensures
+returns-clause-derive g c = derive_holds _ _ _ _ c.answered_by_lanes.ensures
 
 pub returns-clause-seek : goal.returns-clause-seek
-returns-clause-seek g c = seek_holds _ _ _ _ c.answered.ensures
+returns-clause-seek g c = seek_holds _ _ _ _ c.answered_by_lanes.ensures
 
 pub returns-clause-isolation : goal.returns-clause-isolation
-returns-clause-isolation g c = isolation_holds _ _ _ _ c.answered.ensures
+returns-clause-isolation g c = isolation_holds _ _ _ _ c.answered_by_lanes.ensures
 
 pub returns-clause-complete : goal.returns-clause-complete
-returns-clause-complete g c = is_complete _ _ _ _ c.answered.ensures
+returns-clause-complete g c = is_complete _ _ _ _ c.answered_by_lanes.ensures
