@@ -1,6 +1,10 @@
 //! Lanes: that they run beside each other, that they carry the events, and that the tool on one lane has none. No contract can
 //! say that two threads ran; these tests alone show it.
 
+ghost use Rattle.std.specs.Prelude.{◌≡◌, ◌≤◌, None};
+ghost use Rattle.vm_model.specs.declared.limits.TheConstants.{MOST_EVENTS, MOST_LANES};
+ghost use Rattle.machine_model.specs.Machine.{end_of, start_machine};
+
 use dejavu_tool::{Status, accept, dejavu, still_command};
 use drill_program::drill_text;
 use gate_core::{Meeting, NoMeeting};
@@ -12,7 +16,7 @@ use std::test::Fail;
 use std::thread::Threads;
 use thread_driver::Recording;
 use tool_io::{Folder, MemoryFolder, MemorySink, Store};
-use vm_model::{NoMemory, Plain};
+use vm_model::{MOST_EVENTS, NoMemory, Plain};
 
 /// Two threads that each add 1 to a static with no lock; `main` joins both and throws an `Error` where the static isn't 2.
 const WRITERS: &[u8] =
@@ -154,9 +158,13 @@ fn carried<H: Threads + Wait + Sync>(
     alloc: Global,
     plain: &Plain,
     lanes: u32,
-) -> Result<(u64, Recording), NoMemory> {
+) -> Result<(u64, Recording), NoMemory>
+    requires begins { end_of plain.now (start_machine plain.now) MOST_EVENTS ≡ None }
+    requires one { 1 ≤ lanes }
+    requires few { lanes ≤ MOST_LANES }
+{
     let meeting = Counts::new();
-    let recording = record_lanes(rt, alloc, plain, 1_048_576, lanes, &meeting)?;
+    let recording = record_lanes(rt, alloc, plain, MOST_EVENTS, lanes, &meeting)?;
     Ok((meeting.all(), recording))
 }
 
