@@ -42,6 +42,10 @@ with_events a = with_option (codes "events") 1 1048576 (codes "1048576") a
 abbrev pub with_lanes : App → App
 with_lanes a = with_option (codes "lanes") 1 16 (codes "1") a
 
+-- how many tests a search may ask for
+abbrev pub with_tests : App → App
+with_tests a = with_option (codes "tests") 1 1099511627776 (codes "1048576") a
+
 unfoldable pub check_app : App
 check_app = with_text (codes "P") (bare (codes "check"))
 
@@ -67,8 +71,14 @@ seek_app =
 
 unfoldable pub isolate_app : App
 isolate_app =
-    with_events (with_option (codes "workers") 1 16 (codes "1") (with_option (codes "tests") 1 1099511627776 (codes "1048576")
+    with_events (with_option (codes "workers") 1 16 (codes "1") (with_tests
     (with_text (codes "FAIL") (with_text (codes "PASS") (with_text (codes "P") (bare (codes "isolate")))))))
+
+unfoldable pub reduce_app : App
+reduce_app = with_events (with_tests (with_text (codes "OUT") (with_text (codes "FAIL") (with_text (codes "P") (bare (codes "reduce"))))))
+
+unfoldable pub races_app : App
+races_app = with_text (codes "LOG") (with_text (codes "P") (bare (codes "races")))
 
 unfoldable pub drill_app : App
 drill_app = with_text (codes "P") (with_number (codes "K") 1 60 (bare (codes "drill")))
@@ -84,6 +94,8 @@ pub data Word : Type 0 where
   Run : Word
   Seek : Word
   Isolate : Word
+  Reduce : Word
+  Races : Word
   Drill : Word
 
 -- the command of a first word, which is compared exactly
@@ -97,6 +109,8 @@ word_of first =
     if bytes_eq first (codes "run") then Some Run else
     if bytes_eq first (codes "seek") then Some Seek else
     if bytes_eq first (codes "isolate") then Some Isolate else
+    if bytes_eq first (codes "reduce") then Some Reduce else
+    if bytes_eq first (codes "races") then Some Races else
     if bytes_eq first (codes "drill") then Some Drill else None
 
 abbrev pub app_of_word : Word → App
@@ -108,4 +122,6 @@ app_of_word Derive = derive_app
 app_of_word Run = run_app
 app_of_word Seek = seek_app
 app_of_word Isolate = isolate_app
+app_of_word Reduce = reduce_app
+app_of_word Races = races_app
 app_of_word Drill = drill_app

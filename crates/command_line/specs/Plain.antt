@@ -16,6 +16,8 @@ plain_command (command.Derive program log schedule) = request.Derive program.now
 plain_command (command.Run program schedule events) = request.Run program.now schedule.now events
 plain_command (command.Seek program seed tries schedule events) = request.Seek program.now seed tries schedule.now events
 plain_command (command.Isolate program pass fail tests workers events) = request.Isolate program.now pass.now fail.now tests workers events
+plain_command (command.Reduce program fail schedule tests events) = request.Reduce program.now fail.now schedule.now tests events
+plain_command (command.Races program log) = request.Races program.now log.now
 plain_command (command.Drill workers program) = request.Drill workers program.now
 plain_command command.Unknown = request.Unknown
 
@@ -35,6 +37,8 @@ IsWithin (command.Derive program log schedule) = Unit {0}
 IsWithin (command.Run program schedule events) = IsEvents events
 IsWithin (command.Seek program seed tries schedule events) = (1 ≤ tries) × (tries ≤ 65536) × (1 ≤ events) × (events ≤ 1048576)
 IsWithin (command.Isolate program pass fail tests workers events) = (1 ≤ tests) × (tests ≤ 1099511627776) × (1 ≤ workers) × (workers ≤ 16) × (1 ≤ events) × (events ≤ 1048576)
+IsWithin (command.Reduce program fail schedule tests events) = (1 ≤ tests) × (tests ≤ 1099511627776) × (1 ≤ events) × (events ≤ 1048576)
+IsWithin (command.Races program log) = Unit {0}
 IsWithin (command.Drill workers program) = (1 ≤ workers) × (workers ≤ 60)
 IsWithin command.Unknown = Unit {0}
 

@@ -24,6 +24,10 @@ pub data Request : Type 0 where
   Seek : List ℕ → ℕ → ℕ → List ℕ → ℕ → Request
   -- a program, a passing and a failing schedule, how many tests, workers and events
   Isolate : List ℕ → List ℕ → List ℕ → ℕ → ℕ → ℕ → Request
+  -- a program, a failing schedule, the name for the reduced one, how many tests and events
+  Reduce : List ℕ → List ℕ → List ℕ → ℕ → ℕ → Request
+  -- a program, a log
+  Races : List ℕ → List ℕ → Request
   -- how many workers, a program
   Drill : ℕ → List ℕ → Request
   -- no command
@@ -48,6 +52,9 @@ events_in rows = number_in (codes "events") 1 1048576 rows
 abbrev pub lanes_in : List Row → ℕ
 lanes_in rows = number_in (codes "lanes") 1 16 rows
 
+abbrev pub tests_in : List Row → ℕ
+tests_in rows = number_in (codes "tests") 1 1099511627776 rows
+
 -- ---- requests
 
 -- the request of a command, with the values that clap found
@@ -61,7 +68,9 @@ request_with word.Run rows = Run (text_in (codes "P") rows) (text_in (codes "SCH
 request_with word.Seek rows =
     Seek (text_in (codes "P") rows) (number_in (codes "SEED") 0 18446744073709551615 rows) (number_in (codes "TRIES") 1 65536 rows) (text_in (codes "SCHED") rows) (events_in rows)
 request_with word.Isolate rows =
-    Isolate (text_in (codes "P") rows) (text_in (codes "PASS") rows) (text_in (codes "FAIL") rows) (number_in (codes "tests") 1 1099511627776 rows) (number_in (codes "workers") 1 16 rows) (events_in rows)
+    Isolate (text_in (codes "P") rows) (text_in (codes "PASS") rows) (text_in (codes "FAIL") rows) (tests_in rows) (number_in (codes "workers") 1 16 rows) (events_in rows)
+request_with word.Reduce rows = Reduce (text_in (codes "P") rows) (text_in (codes "FAIL") rows) (text_in (codes "OUT") rows) (tests_in rows) (events_in rows)
+request_with word.Races rows = Races (text_in (codes "P") rows) (text_in (codes "LOG") rows)
 request_with word.Drill rows = Drill (number_in (codes "K") 1 60 rows) (text_in (codes "P") rows)
 
 abbrev pub is_none : Kinds → Bool

@@ -12,4 +12,6 @@ plain_word word.Derive = spec.Derive
 plain_word word.Run = spec.Run
 plain_word word.Seek = spec.Seek
 plain_word word.Isolate = spec.Isolate
+plain_word word.Reduce = spec.Reduce
+plain_word word.Races = spec.Races
 plain_word word.Drill = spec.Drill

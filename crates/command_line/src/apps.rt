@@ -20,6 +20,8 @@ pub(crate) enum Word {
     Run,
     Seek,
     Isolate,
+    Reduce,
+    Races,
     Drill,
 }
 
@@ -82,6 +84,12 @@ fn with_lanes<'a>(command: Command<'a>, alloc: Global) -> Result<Command<'a>, Al
     ensures { IfOk result (λ c. app_of c ≡ spec.with_lanes (app_of command.entry)) }
 {
     with_option(command, alloc, "lanes", 1, 16, "1")
+}
+
+fn with_tests<'a>(command: Command<'a>, alloc: Global) -> Result<Command<'a>, AllocError>
+    ensures { IfOk result (λ c. app_of c ≡ spec.with_tests (app_of command.entry)) }
+{
+    with_option(command, alloc, "tests", 1, 1_099_511_627_776, "1048576")
 }
 
 #[tactic(auto, unfolding(crate::specs::Commands::check_app))]
@@ -155,9 +163,28 @@ fn isolate<'a>(alloc: Global) -> Result<Command<'a>, AllocError>
     let command = with_text(bare(alloc, "isolate"), alloc, "P")?;
     let command = with_text(command, alloc, "PASS")?;
     let command = with_text(command, alloc, "FAIL")?;
-    let command = with_option(command, alloc, "tests", 1, 1_099_511_627_776, "1048576")?;
+    let command = with_tests(command, alloc)?;
     let command = with_option(command, alloc, "workers", 1, 16, "1")?;
     with_events(command, alloc)
+}
+
+#[tactic(auto, unfolding(crate::specs::Commands::reduce_app))]
+fn reduce<'a>(alloc: Global) -> Result<Command<'a>, AllocError>
+    ensures { IfOk result (λ c. app_of c ≡ spec.reduce_app) }
+{
+    let command = with_text(bare(alloc, "reduce"), alloc, "P")?;
+    let command = with_text(command, alloc, "FAIL")?;
+    let command = with_text(command, alloc, "OUT")?;
+    let command = with_tests(command, alloc)?;
+    with_events(command, alloc)
+}
+
+#[tactic(auto, unfolding(crate::specs::Commands::races_app))]
+fn races<'a>(alloc: Global) -> Result<Command<'a>, AllocError>
+    ensures { IfOk result (λ c. app_of c ≡ spec.races_app) }
+{
+    let command = with_text(bare(alloc, "races"), alloc, "P")?;
+    with_text(command, alloc, "LOG")
 }
 
 #[tactic(auto, unfolding(crate::specs::Commands::drill_app))]
@@ -181,6 +208,8 @@ pub(crate) fn app_for<'a>(alloc: Global, word: Word) -> Result<Command<'a>, Allo
         Word::Run => run(alloc),
         Word::Seek => seek(alloc),
         Word::Isolate => isolate(alloc),
+        Word::Reduce => reduce(alloc),
+        Word::Races => races(alloc),
         Word::Drill => drill(alloc),
     }
 }
@@ -198,6 +227,8 @@ pub(crate) fn word_in(first: &str) -> Option<Word>
         "run" => Some(Word::Run),
         "seek" => Some(Word::Seek),
         "isolate" => Some(Word::Isolate),
+        "reduce" => Some(Word::Reduce),
+        "races" => Some(Word::Races),
         "drill" => Some(Word::Drill),
         _ => None,
     }

@@ -8,7 +8,7 @@ ghost use Rattle.command_line.specs.Requests.{request_for, request_of, request_w
 ghost use Rattle.command_line.specs.Words.{plain_word};
 
 use crate::apps::{Word, app_for, word_in};
-use crate::values::{events_in, lanes_in, number_in, text_in};
+use crate::values::{events_in, lanes_in, number_in, tests_in, text_in};
 use clap::ArgMatches;
 use clap::error::ErrorKind;
 use std::alloc::Global;
@@ -70,6 +70,20 @@ pub enum Command<'a> {
         workers: u64,
         events: u64,
     },
+    /// To drop the times of a failing schedule that its fault doesn't need, by at most so many tests, from 1 to 2^40, and store
+    /// the rest.
+    Reduce {
+        program: &'a str,
+        fail: &'a str,
+        schedule: &'a str,
+        tests: u64,
+        events: u64,
+    },
+    /// To print which accesses of the log's run race.
+    Races {
+        program: &'a str,
+        log: &'a str,
+    },
     /// To store the drill of so many workers, from 1 to 60, and to record and replay it.
     Drill {
         workers: u64,
@@ -125,9 +139,20 @@ fn command_with<'a>(word: Word, matches: &ArgMatches<'a>) -> Command<'a>
             program: text_in(matches, "P"),
             pass: text_in(matches, "PASS"),
             fail: text_in(matches, "FAIL"),
-            tests: number_in(matches, "tests", 1, 1_099_511_627_776),
+            tests: tests_in(matches),
             workers: number_in(matches, "workers", 1, 16),
             events: events_in(matches),
+        },
+        Word::Reduce => Command::Reduce {
+            program: text_in(matches, "P"),
+            fail: text_in(matches, "FAIL"),
+            schedule: text_in(matches, "OUT"),
+            tests: tests_in(matches),
+            events: events_in(matches),
+        },
+        Word::Races => Command::Races {
+            program: text_in(matches, "P"),
+            log: text_in(matches, "LOG"),
         },
         Word::Drill => Command::Drill {
             workers: number_in(matches, "K", 1, 60),

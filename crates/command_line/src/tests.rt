@@ -204,6 +204,31 @@ const ROWS: &[Row] = &[
         numbers: [0, 0, 0, 0],
     },
     Row {
+        words: &["reduce", "P", "F", "O", "--events=20", "--tests", "7"],
+        is_command: true,
+        numbers: [7, 20, 0, 0],
+    },
+    Row {
+        words: &["reduce", "P", "F"],
+        is_command: false,
+        numbers: [0, 0, 0, 0],
+    },
+    Row {
+        words: &["reduce", "P", "F", "O", "--workers", "2"],
+        is_command: false,
+        numbers: [0, 0, 0, 0],
+    },
+    Row {
+        words: &["races", "P", "L"],
+        is_command: true,
+        numbers: [0, 0, 0, 0],
+    },
+    Row {
+        words: &["races", "P", "L", "--events", "5"],
+        is_command: false,
+        numbers: [0, 0, 0, 0],
+    },
+    Row {
         words: &["drill", "8", "D"],
         is_command: true,
         numbers: [8, 0, 0, 0],
@@ -239,8 +264,10 @@ fn numbers_of(command: Command<'_>) -> [u64; 4] {
             events,
             ..
         } => [tests, workers, events, 0],
+        Command::Reduce { tests, events, .. } => [tests, events, 0, 0],
         Command::Drill { workers, .. } => [workers, 0, 0, 0],
-        Command::Check { .. } | Command::Derive { .. } | Command::Unknown => [0, 0, 0, 0],
+        Command::Check { .. } | Command::Derive { .. } | Command::Races { .. } | Command::Unknown =>
+            [0, 0, 0, 0],
     }
 }
 

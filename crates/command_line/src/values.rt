@@ -62,3 +62,12 @@ pub(crate) fn lanes_in<'a>(matches: &ArgMatches<'a>) -> u64
 {
     number_in(matches, "lanes", 1, 16)
 }
+
+/// How many tests a search may ask for.
+pub(crate) fn tests_in<'a>(matches: &ArgMatches<'a>) -> u64
+    ensures value { result ≡ spec.tests_in (rows_of (found_of matches.now)) }
+    ensures low { 1 ≤ result }
+    ensures high { result ≤ 1099511627776 }
+{
+    number_in(matches, "tests", 1, 1_099_511_627_776)
+}

@@ -1,6 +1,6 @@
 -- What a command says, put to the sink.
 use Rattle.std.proofs.Common.{◌≡◌, ℕ, Global, List, Vec, ◌++◌, ap, sym, subst, ◌∙◌, IsTrue, inr, ⊎_elim}
-use Rattle.command_line.specs.Requests.{Request, Check, Record, Replay, Show, Derive, Run, Seek, Isolate, Drill, Unknown}
+use Rattle.command_line.specs.Requests.{Request, Check, Record, Replay, Show, Derive, Run, Seek, Isolate, Reduce, Races, Drill, Unknown}
 use Rattle.dejavu_tool.specs.declared.halt.Halt.{Halt}
 use Rattle.dejavu_tool.specs.declared.halt.Halt.TheVariants as halt
 use Rattle.dejavu_tool.specs.declared.status.Status.{Status}
@@ -10,8 +10,8 @@ use Rattle.schedule_log.specs.Logs.{PlainLog}
 use Rattle.dejavu_tool.specs.Answers.{Answers, AtLog, AtSchedule, Checks, Does, DrillStops, StopsAfterLog, StopsAfterProgram, StopsAfterSchedule, StopsAfterSchedules, Stops, Tells, Records, Replays, UsageStops}
 use Rattle.dejavu_tool.specs.Calls.{FolderCall, SinkCall, Puts}
 use Rattle.dejavu_tool.specs.Files.{FileStops, LogStops, ProgramStops, ScheduleStops}
-use Rattle.dejavu_tool.specs.Headline.{CheckHolds, DeriveHolds, DrillHolds, IsolationHolds, SeekHolds, RecordingHolds, ReplayHolds, RunHolds, ShowHolds, IsFinishedCheck, IsFinishedRecording, IsFinishedReplay}
-use Rattle.dejavu_tool.specs.Runs.{DeriveStops, IsolateStops, RunStops, SeekStops, StateStops}
+use Rattle.dejavu_tool.specs.Headline.{CheckHolds, DeriveHolds, DrillHolds, IsolationHolds, RacesHold, ReduceHolds, SeekHolds, RecordingHolds, ReplayHolds, RunHolds, ShowHolds, IsFinishedCheck, IsFinishedRecording, IsFinishedReplay}
+use Rattle.dejavu_tool.specs.Runs.{DeriveStops, IsolateStops, ReduceStops, RunStops, SeekStops, StateStops}
 use Rattle.dejavu_tool.specs.Stages.{Halts, PutsUnlessFault}
 
 -- ---- no stage stops with a status that tells of no stage
@@ -62,6 +62,11 @@ isolate_no p events passing failing tests status.NotFailing text quiet h = quiet
 isolate_no p events passing failing tests status.TestsSpent text quiet h = quiet
 isolate_no p events passing failing tests _ text quiet h = h
 
+reduce_no : (p : PlainProgram) (events : ℕ) (failing : List ℕ) (tests : ℕ) (answer : Status) (text : List ℕ) → IsNoStop answer → ReduceStops p events failing tests answer text → ⊥
+reduce_no p events failing tests status.NotFailing text quiet h = quiet
+reduce_no p events failing tests status.TestsSpent text quiet h = quiet
+reduce_no p events failing tests _ text quiet h = h
+
 drill_no : (c : FolderCall) (workers : ℕ) (program : List ℕ) (answer : Status) (text : List ℕ) → IsNoStop answer → DrillStops c workers program answer text → ⊥
 drill_no c workers program status.ProgramRefused text quiet h = quiet
 drill_no c workers program _ text quiet h = h
@@ -92,6 +97,13 @@ no_stop (Isolate program pass fail tests workers events) c answer text quiet h =
     (λ b. ⊎_elim (λ (a : AtSchedule c program pass events answer text). schedule_no c events pass answer text quiet a.stop)
     (λ d. ⊎_elim (λ (a : StopsAfterSchedule c program pass events (λ p passing. ScheduleStops c events fail answer text)). schedule_no c events fail answer text quiet a.stop)
     (λ (a : StopsAfterSchedules c program pass fail events (λ p passing failing. IsolateStops p events passing failing tests answer text)). isolate_no a.of_program events a.passing a.failing tests answer text quiet a.stop) d) b) h.1
+no_stop (Reduce program fail schedule tests events) c answer text quiet h =
+    ⊎_elim (program_no c program answer text quiet)
+    (λ b. ⊎_elim (λ (a : AtSchedule c program fail events answer text). schedule_no c events fail answer text quiet a.stop)
+    (λ (a : StopsAfterSchedule c program fail events (λ p failing. ReduceStops p events failing tests answer text)). reduce_no a.of_program events a.times tests answer text quiet a.stop) b) h.1
+no_stop (Races program log) c answer text quiet h =
+    ⊎_elim (program_no c program answer text quiet)
+    (λ b. ⊎_elim (λ (a : AtLog c program log answer text). log_no c log answer text quiet a.stop) (λ (a : StopsAfterLog c program log (λ p l. RunStops p l answer text)). run_no a.of_program a.of_log answer text quiet a.stop) b) h.1
 no_stop Unknown c answer text quiet h = usage_no c answer text quiet h
 
 -- ---- what is put
@@ -231,3 +243,13 @@ pub isolation_holds : (asked : Request) (c : FolderCall) (s : SinkCall) (answer 
 isolation_holds (Isolate program pass fail tests workers events) c s answer a =
     λ e told. let so = subst (λ (x : Status). Answers (Isolate program pass fail tests workers events) c s x) e a in record { printed = so.text; done = so.tells; puts = so.printed told }
 isolation_holds _ c s answer a = tt
+
+pub reduce_holds : (asked : Request) (c : FolderCall) (s : SinkCall) (answer : Status) → Answers asked c s answer → ReduceHolds asked c s answer
+reduce_holds (Reduce program fail schedule tests events) c s answer a =
+    λ e told. let so = subst (λ (x : Status). Answers (Reduce program fail schedule tests events) c s x) e a in record { printed = so.text; done = so.tells; puts = so.printed told }
+reduce_holds _ c s answer a = tt
+
+pub races_hold : (asked : Request) (c : FolderCall) (s : SinkCall) (answer : Status) → Answers asked c s answer → RacesHold asked c s answer
+races_hold (Races program log) c s answer a =
+    λ e told. let so = subst (λ (x : Status). Answers (Races program log) c s x) e a in record { printed = so.text; done = so.tells; puts = so.printed told }
+races_hold _ c s answer a = tt

@@ -15,8 +15,9 @@ use Rattle.schedule_model.specs.Outcomes.{end_under}
 use Rattle.switch_schedule.specs.Searches.{NoneBelow}
 use Rattle.switch_schedule.specs.Texts.{SpellsSchedule}
 use Rattle.switch_schedule.proofs.First.{one-schedule, spelled-faultless}
+use Rattle.program_reducer.specs.Reductions as reduction
 use Rattle.program_isolator.specs.Isolations.{NeedsMore, tests_between}
-use Rattle.command_line.specs.Requests.{Request, Check, Record, Replay, Show, Derive, Run, Seek, Isolate, Drill, Unknown}
+use Rattle.command_line.specs.Requests.{Request, Check, Record, Replay, Show, Derive, Run, Seek, Isolate, Reduce, Races, Drill, Unknown}
 use Rattle.drill_program.specs.Texts.{drill_text}
 use Rattle.dejavu_tool.specs.declared.status.Status.{Status}
 use Rattle.dejavu_tool.specs.declared.status.Status.TheVariants as status
@@ -25,9 +26,9 @@ use Rattle.dejavu_tool.specs.declared.programs.ProgramFault.TheVariants as fault
 use Rattle.dejavu_tool.specs.Accepting.{linked, IsAccepted}
 use Rattle.dejavu_tool.specs.Answers.{Answers, AtLog, AtSchedule, DrillStops, StopsAfterLog, StopsAfterProgram, StopsAfterSchedule, StopsAfterSchedules, StoreIsLost, Stops}
 use Rattle.dejavu_tool.specs.Calls.{FolderCall, SinkCall}
-use Rattle.dejavu_tool.specs.Completeness.{CanDerive, CanDo, CanIsolate, CanSeek, HasLog, HasProgram, HasSchedule, IsComplete, IsUnhindered, RunsTo, RunsUpTo}
+use Rattle.dejavu_tool.specs.Completeness.{CanDerive, CanDo, CanIsolate, CanReduce, CanSeek, HasLog, HasProgram, HasSchedule, IsComplete, IsUnhindered, RunsTo, RunsUpTo}
 use Rattle.dejavu_tool.specs.Files.{FileStops, LoadsLog, LoadsProgram, LoadsSchedule, LogStops, ProgramStops, ScheduleStops, TellsFault}
-use Rattle.dejavu_tool.specs.Runs.{DeriveStops, IsolateStops, RunStops, SeekStops, StateStops, TellsDivergence, TellsEarlyDivergence, TellsNotFailing, TellsNotPassing, TellsTooMany}
+use Rattle.dejavu_tool.specs.Runs.{DeriveStops, IsolateStops, ReduceStops, RunStops, SeekStops, StateStops, TellsDivergence, TellsEarlyDivergence, TellsNoFault, TellsNotFailing, TellsNotPassing, TellsTooMany}
 use Rattle.dejavu_tool.proofs.Repeating.{same_some, same_ok, spelled_is_read}
 
 -- ---- runs
@@ -209,6 +210,25 @@ isolate_stops c s program pass fail tests events status.TestsSpent text can h =
     omega (arith, more, can.enough)
 isolate_stops c s program pass fail tests events _ text can h = h.stop
 
+reduce_stops : (c : FolderCall) (s : SinkCall) (program fail : List ℕ) (tests events : ℕ) (answer : Status) (text : List ℕ) → CanReduce c s program fail tests events
+    → StopsAfterSchedule c program fail events (λ p failing. ReduceStops p events failing tests answer text) → ⊥
+reduce_stops c s program fail tests events status.NotFailing text can h =
+    let p = same_program c program h.of_program can.has h.loads in
+    let l = same_times c events fail h.times can.has.told can.has_fail h.loads_schedule in
+    let d = subst (λ (x : PlainProgram). TellsNoFault x events h.times text) p h.stop in
+    let d' = subst (λ (ts : List ℕ). TellsNoFault can.has.of_program events ts text) l d in
+    d'.no_fault can.fault (same_some (end_under can.has.of_program events (run can.has.of_program (schedule_threads can.has.of_program can.has_fail.times events))) d'.end (end.Fault can.fault) d'.ends can.fails)
+reduce_stops c s program fail tests events status.TestsSpent text can h =
+    let p = same_program c program h.of_program can.has h.loads in
+    let l = same_times c events fail h.times can.has.told can.has_fail h.loads_schedule in
+    let d = subst (λ (x : PlainProgram). reduction.NeedsMore x events h.times tests) p h.stop.0 in
+    let d' = subst (λ (ts : List ℕ). reduction.NeedsMore can.has.of_program events ts tests) l d in
+    let ends = same_some (end_under can.has.of_program events (run can.has.of_program (schedule_threads can.has.of_program can.has_fail.times events))) (end.Fault d'.fault) (end.Fault can.fault) d'.fails can.fails in
+    let same : d'.fault ≡ can.fault = cc in
+    let more = subst (λ f. tests < reduction.tests_on can.has.of_program events f can.has_fail.times) same d'.more in
+    omega (arith, more, can.enough)
+reduce_stops c s program fail tests events _ text can h = h.stop
+
 drill_stops : (c : FolderCall) (workers : ℕ) (program : List ℕ) (answer : Status) (text : List ℕ) (p : PlainProgram) → IsAccepted (drill_text workers) p → DrillStops c workers program answer text → ⊥
 drill_stops c workers program status.ProgramRefused text p is h = no_fault (drill_text workers) p h.1.fault text is h.1.tells
 drill_stops c workers program _ text p is h = h
@@ -238,6 +258,13 @@ stops_never (Isolate program pass fail tests workers events) c s answer text can
     (λ b. ⊎_elim (λ (a : AtSchedule c program pass events answer text). schedule_stops c s events pass answer text can.has.told can.has_pass can.free a.stop)
     (λ d. ⊎_elim (λ (a : StopsAfterSchedule c program pass events (λ p passing. ScheduleStops c events fail answer text)). schedule_stops c s events fail answer text can.has.told can.has_fail can.free a.stop)
     (isolate_stops c s program pass fail tests events answer text can) d) b) h.1
+stops_never (Reduce program fail schedule tests events) c s answer text can h =
+    ⊎_elim (program_stops c s program answer text can.has can.free)
+    (λ b. ⊎_elim (λ (a : AtSchedule c program fail events answer text). schedule_stops c s events fail answer text can.has.told can.has_fail can.free a.stop)
+    (reduce_stops c s program fail tests events answer text can) b) h.1
+stops_never (Races program log) c s answer text can h =
+    ⊎_elim (program_stops c s program answer text can.has can.free)
+    (λ b. ⊎_elim (λ (a : AtLog c program log answer text). log_stops c s log answer text can.has.told can.has_log can.free a.stop) (run_stops c program log answer text can.has can.has_log can.runs) b) h.1
 stops_never Unknown c s answer text can h = can
 
 store_never : (asked : Request) (c : FolderCall) (s : SinkCall) → CanDo asked c s → StoreIsLost asked c → ⊥
@@ -250,6 +277,8 @@ store_never (Drill workers program) c s can h = can.no_store h.fault
 store_never (Derive program log schedule) c s can h = can.no_store h.stop.fault
 store_never (Seek program seed tries schedule events) c s can h = can.no_store h.stop.fault
 store_never (Isolate program pass fail tests workers events) c s can h = h
+store_never (Reduce program fail schedule tests events) c s can h = can.no_store h.stop.fault
+store_never (Races program log) c s can h = h
 store_never Unknown c s can h = can
 
 unhindered : (asked : Request) (c : FolderCall) (s : SinkCall) → CanDo asked c s → IsUnhindered c s
@@ -262,6 +291,8 @@ unhindered (Drill workers program) c s can = can.free
 unhindered (Derive program log schedule) c s can = can.free
 unhindered (Seek program seed tries schedule events) c s can = can.free
 unhindered (Isolate program pass fail tests workers events) c s can = can.free
+unhindered (Reduce program fail schedule tests events) c s can = can.free
+unhindered (Races program log) c s can = can.free
 unhindered Unknown c s can = absurd can
 
 pub is_complete : (asked : Request) (c : FolderCall) (s : SinkCall) (answer : Status) → Answers asked c s answer → IsComplete asked c s answer

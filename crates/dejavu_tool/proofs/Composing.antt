@@ -2,13 +2,13 @@
 use Rattle.std.proofs.Common.{◌≡◌, ℕ, List, sym, subst, ◌∙◌, IsTrue}
 use Rattle.vm_model.specs.Program.{PlainProgram}
 use Rattle.schedule_log.specs.Logs.{PlainLog}
-use Rattle.command_line.specs.Requests.{Derive, Record, Seek}
+use Rattle.command_line.specs.Requests.{Derive, Record, Reduce, Seek}
 use Rattle.dejavu_tool.specs.declared.halt.Halt.{Halt}
 use Rattle.dejavu_tool.specs.declared.halt.Halt.TheVariants as halt
 use Rattle.dejavu_tool.specs.declared.status.Status.{Status}
 use Rattle.dejavu_tool.specs.Answers.{LosesFile}
 use Rattle.dejavu_tool.specs.Calls.{FolderCall, IsUntouched}
-use Rattle.dejavu_tool.specs.Files.{LoadsLog, LoadsProgram}
+use Rattle.dejavu_tool.specs.Files.{LoadsLog, LoadsProgram, LoadsSchedule}
 use Rattle.dejavu_tool.specs.Stages.{Halts, HaltsBy, StoreHalts}
 
 -- c is b, which only reads, and then d
@@ -59,6 +59,17 @@ derive_store b d c program log schedule p l (halt.Told st line) k loads kept h =
 derive_store b d c program log schedule p l halt.Memory k loads kept h = untouched b d c k h
 derive_store b d c program log schedule p l halt.Store k loads kept h =
     record { of_program = p; loads = loads_program b d c program p k loads; of_log = l; loads_log = loads_log b d c log l k kept; stop = loses_file b d c schedule k h }
+
+pub loads_schedule : (b d c : FolderCall) (events : ℕ) (name times : List ℕ) → Composed b d c → LoadsSchedule b events name times → LoadsSchedule c events name times
+loads_schedule b d c events name times k h = record { bytes = h.bytes; loaded = λ t. k.before name ∙ h.loaded (subst IsTrue k.c_told t); spelled = h.spelled }
+
+-- a schedule that was reduced and isn't stored
+pub reduce_store : (b d c : FolderCall) (program fail schedule : List ℕ) (tests events : ℕ) (p : PlainProgram) (times : List ℕ) (h : Halt) → Composed b d c → LoadsProgram b program p → LoadsSchedule b events fail times → StoreHalts d schedule h
+    → Halts (Reduce program fail schedule tests events) c h
+reduce_store b d c program fail schedule tests events p times (halt.Told st line) k loads kept h = absurd h
+reduce_store b d c program fail schedule tests events p times halt.Memory k loads kept h = untouched b d c k h
+reduce_store b d c program fail schedule tests events p times halt.Store k loads kept h =
+    record { of_program = p; loads = loads_program b d c program p k loads; times = times; loads_schedule = loads_schedule b d c events fail times k kept; stop = loses_file b d c schedule k h }
 
 -- a stage that stops so stops the whole
 pub stops_so : (A B : Status → List ℕ → Type 0) (h : Halt) → ((st : Status) (line : List ℕ) → A st line → B st line) → HaltsBy A h → HaltsBy B h

@@ -6,3 +6,4 @@ pub mod Repeating
 pub mod Linked
 pub mod Telling
 pub mod Earlier
+pub mod AfterLog

@@ -3,7 +3,7 @@ use Rattle.std.specs.Prelude.{◌≡◌, ℕ, List, ◌++◌, IsTrue, codes, ◌
 use Rattle.tool_io.specs.Outside.{SameButOne}
 use Rattle.vm_model.specs.Program.{PlainProgram}
 use Rattle.schedule_log.specs.Logs.{PlainLog}
-use Rattle.command_line.specs.Requests.{Request, Check, Record, Replay, Show, Derive, Run, Seek, Isolate, Drill, Unknown}
+use Rattle.command_line.specs.Requests.{Request, Check, Record, Replay, Show, Derive, Run, Seek, Isolate, Reduce, Races, Drill, Unknown}
 use Rattle.drill_program.specs.Texts.{drill_text}
 use Rattle.vm_model.specs.declared.limits.TheConstants.{MOST_EVENTS}
 use Rattle.dejavu_tool.specs.declared.status.Status.{Status}
@@ -12,7 +12,7 @@ use Rattle.dejavu_tool.specs.Checking.{check_text, count_line}
 use Rattle.dejavu_tool.specs.Calls.{FolderCall, SinkCall, StoreFails, Stores, IsUntouched, Puts, PutsNothing, PutFails}
 use Rattle.dejavu_tool.specs.Accepting.{IsAccepted}
 use Rattle.dejavu_tool.specs.Files.{LoadsProgram, LoadsLog, LoadsSchedule, ProgramStops, LogStops, RefusesText, ScheduleStops}
-use Rattle.dejavu_tool.specs.Runs.{DeriveStops, IsolateStops, RunStops, SeekStops, StateStops, TellsDerived, TellsIsolated, TellsRecording, TellsRun, TellsScheduled, TellsSought, TellsState}
+use Rattle.dejavu_tool.specs.Runs.{DeriveStops, IsolateStops, ReduceStops, RunStops, SeekStops, StateStops, TellsDerived, TellsIsolated, TellsRaces, TellsRecording, TellsReduced, TellsRun, TellsScheduled, TellsSought, TellsState}
 use Rattle.dejavu_tool.specs.Lines.{usage_line}
 
 -- ---- what is done, and printed
@@ -86,6 +86,25 @@ pub record Isolates (c : FolderCall) (program pass fail : List ℕ) (tests event
   pub failing : List ℕ
   pub loads_fail : LoadsSchedule c events fail failing
   pub isolated : TellsIsolated of_program events passing failing tests printed
+  pub untouched : IsUntouched c
+
+-- what is left of the failing schedule is stored, no other file changes, and how much it is is printed
+pub record Reduces (c : FolderCall) (program fail schedule : List ℕ) (tests events : ℕ) (printed : List ℕ) : Type 0 where
+  pub of_program : PlainProgram
+  pub loads : LoadsProgram c program of_program
+  pub failing : List ℕ
+  pub loads_fail : LoadsSchedule c events fail failing
+  pub bytes : List ℕ
+  pub reduced : TellsReduced of_program events failing tests bytes printed
+  pub stored : Stores c schedule bytes
+
+-- no file changes, and the races of the log's run are printed
+pub record ReportsRaces (c : FolderCall) (program log printed : List ℕ) : Type 0 where
+  pub of_program : PlainProgram
+  pub loads : LoadsProgram c program of_program
+  pub of_log : PlainLog
+  pub loads_log : LoadsLog c log of_log
+  pub races : TellsRaces of_program of_log printed
   pub untouched : IsUntouched c
 
 -- The text is that of a program. Its recording by the ring without switches is printed, after how many workers it has.
@@ -169,6 +188,8 @@ Does (Run program schedule events) c printed = Runs c program schedule events pr
 Does (Derive program log schedule) c printed = Derives c program log schedule printed
 Does (Seek program seed tries schedule events) c printed = Seeks c program seed tries schedule events printed
 Does (Isolate program pass fail tests workers events) c printed = Isolates c program pass fail tests events printed
+Does (Reduce program fail schedule tests events) c printed = Reduces c program fail schedule tests events printed
+Does (Races program log) c printed = ReportsRaces c program log printed
 Does (Drill workers program) c printed = Drills c workers program printed
 Does Unknown c printed = ⊥
 
@@ -190,6 +211,11 @@ Stops (Isolate program pass fail tests workers events) c status printed =
     IsUntouched c × (ProgramStops c program status printed ⊎ (AtSchedule c program pass events status printed
     ⊎ (StopsAfterSchedule c program pass events (λ p passing. ScheduleStops c events fail status printed)
     ⊎ StopsAfterSchedules c program pass fail events (λ p passing failing. IsolateStops p events passing failing tests status printed))))
+Stops (Reduce program fail schedule tests events) c status printed =
+    IsUntouched c × (ProgramStops c program status printed ⊎ (AtSchedule c program fail events status printed
+    ⊎ StopsAfterSchedule c program fail events (λ p failing. ReduceStops p events failing tests status printed)))
+Stops (Races program log) c status printed =
+    IsUntouched c × (ProgramStops c program status printed ⊎ (AtLog c program log status printed ⊎ StopsAfterLog c program log (λ p l. RunStops p l status printed)))
 Stops (Drill workers program) c status printed = DrillStops c workers program status printed
 Stops Unknown c status printed = UsageStops c status printed
 
@@ -210,6 +236,7 @@ abbrev pub StoreIsLost : Request → FolderCall → Type 0
 StoreIsLost (Record program log lanes events) c = StopsAfterProgram c program (λ p. LosesFile c log)
 StoreIsLost (Derive program log schedule) c = StopsAfterLog c program log (λ p l. LosesFile c schedule)
 StoreIsLost (Seek program seed tries schedule events) c = StopsAfterProgram c program (λ p. LosesFile c schedule)
+StoreIsLost (Reduce program fail schedule tests events) c = StopsAfterSchedule c program fail events (λ p failing. LosesFile c schedule)
 StoreIsLost (Drill workers program) c = LosesFile c program
 StoreIsLost _ c = ⊥
 

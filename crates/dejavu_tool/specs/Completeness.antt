@@ -11,8 +11,9 @@ use Rattle.schedule_log.specs.Spelling.{Spells}
 use Rattle.switch_schedule.specs.Derivations.{NeedsTooMany}
 use Rattle.switch_schedule.specs.Searches.{ends_in_fault, try_times}
 use Rattle.switch_schedule.specs.Texts.{SpellsSchedule}
+use Rattle.program_reducer.specs.Reductions.{tests_on}
 use Rattle.program_isolator.specs.Isolations.{EndsSo, tests_between}
-use Rattle.command_line.specs.Requests.{Request, Check, Record, Replay, Show, Derive, Run, Seek, Isolate, Drill, Unknown}
+use Rattle.command_line.specs.Requests.{Request, Check, Record, Replay, Show, Derive, Run, Seek, Isolate, Reduce, Races, Drill, Unknown}
 use Rattle.drill_program.specs.Texts.{drill_text}
 use Rattle.dejavu_tool.specs.declared.status.Status.{Status}
 use Rattle.dejavu_tool.specs.declared.status.Status.TheVariants as status
@@ -119,6 +120,16 @@ pub record CanIsolate (c : FolderCall) (s : SinkCall) (program pass fail : List 
   pub enough : tests_between has.of_program events fault has_pass.times has_fail.times ≤ tests
   pub free : IsUnhindered c s
 
+-- the schedule ends in a fault, and the tests that are needed are allowed
+pub record CanReduce (c : FolderCall) (s : SinkCall) (program fail : List ℕ) (tests events : ℕ) : Type 0 where
+  pub has : HasProgram c program
+  pub has_fail : HasSchedule c events fail
+  pub fault : Fault
+  pub fails : EndsSo has.of_program events has_fail.times (end.Fault fault)
+  pub enough : tests_on has.of_program events fault has_fail.times ≤ tests
+  pub free : IsUnhindered c s
+  pub no_store : StoreFails c → ⊥
+
 -- the drill's text is that of a program
 pub record CanDrill (c : FolderCall) (s : SinkCall) (workers : ℕ) : Type 0 where
   pub of_program : PlainProgram
@@ -136,6 +147,8 @@ CanDo (Run program schedule events) c s = CanRun c s program schedule events
 CanDo (Derive program log schedule) c s = CanDerive c s program log
 CanDo (Seek program seed tries schedule events) c s = CanSeek c s program seed tries events
 CanDo (Isolate program pass fail tests workers events) c s = CanIsolate c s program pass fail tests events
+CanDo (Reduce program fail schedule tests events) c s = CanReduce c s program fail tests events
+CanDo (Races program log) c s = CanReplay c s program log
 CanDo (Drill workers program) c s = CanDrill c s workers
 CanDo Unknown c s = ⊥
 

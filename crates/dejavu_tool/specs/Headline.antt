@@ -15,8 +15,8 @@ use Rattle.dejavu_tool.specs.declared.status.Status.TheVariants as status
 use Rattle.dejavu_tool.specs.Accepting.{IsAccepted}
 use Rattle.dejavu_tool.specs.Checking.{check_text}
 use Rattle.dejavu_tool.specs.Calls.{FolderCall, SinkCall}
-use Rattle.command_line.specs.Requests.{Request, Check, Record, Replay, Show, Derive, Run, Seek, Isolate, Drill}
-use Rattle.dejavu_tool.specs.Answers.{Derives, Drills, Isolates, Runs, Seeks, Shows}
+use Rattle.command_line.specs.Requests.{Request, Check, Record, Replay, Show, Derive, Run, Seek, Isolate, Reduce, Races, Drill}
+use Rattle.dejavu_tool.specs.Answers.{Derives, Drills, Isolates, Reduces, ReportsRaces, Runs, Seeks, Shows}
 
 -- The bytes under LOG spell one log. It tiles the run's events, and its threads lead the accepted program of the text under P
 -- to a machine with an end of the log's kind. What is printed is that run: its numbers of events and intervals, its end and
@@ -103,6 +103,16 @@ SeekHolds _ c s answer = Unit {0}
 abbrev pub IsolationHolds : Request → FolderCall → SinkCall → Status → Type 0
 IsolationHolds (Isolate program pass fail tests workers events) c s answer = answer ≡ status.Ok → IsTrue s.told → Finishes s (Isolates c program pass fail tests events)
 IsolationHolds _ c s answer = Unit {0}
+
+-- A finished reduction: the schedule that is stored fails as the given one, and doesn't without any one of its times.
+abbrev pub ReduceHolds : Request → FolderCall → SinkCall → Status → Type 0
+ReduceHolds (Reduce program fail schedule tests events) c s answer = answer ≡ status.Ok → IsTrue s.told → Finishes s (Reduces c program fail schedule tests events)
+ReduceHolds _ c s answer = Unit {0}
+
+-- A finished report of races: exactly the places with a race, each with its first one.
+abbrev pub RacesHold : Request → FolderCall → SinkCall → Status → Type 0
+RacesHold (Races program log) c s answer = answer ≡ status.Ok → IsTrue s.told → Finishes s (ReportsRaces c program log)
+RacesHold _ c s answer = Unit {0}
 
 abbrev pub DrillHolds : Request → FolderCall → SinkCall → Status → Type 0
 DrillHolds (Drill workers program) c s answer = answer ≡ status.Ok → IsTrue s.told → Finishes s (Drills c workers program)

@@ -1,5 +1,5 @@
 -- What is printed of runs.
-use Rattle.std.specs.Prelude.{◌≡◌, ◌≢◌, ℕ, ◌+◌, List, [], ◌++◌, length, Option, Some, take, codes}
+use Rattle.std.specs.Prelude.{◌≡◌, ◌≢◌, ℕ, ◌+◌, List, [], ◌++◌, length, Option, Some, option_map, take, codes}
 use Rattle.vm_model.specs.declared.ends.End.{End}
 use Rattle.vm_model.specs.declared.ends.End.TheVariants as end_of_run
 use Rattle.vm_model.specs.declared.limits.TheConstants.{MOST_EVENTS}
@@ -19,8 +19,13 @@ use Rattle.switch_schedule.specs.Runs.{IsRunOf}
 use Rattle.switch_schedule.specs.Searches.{IsFirstFault, NoneBelow}
 use Rattle.switch_schedule.specs.Texts.{SpellsSchedule}
 use Rattle.program_isolator.specs.Isolations.{EndsSo, IsIsolation, IsNoFault, NeedsMore}
+use Rattle.switch_reducer.specs.declared.search.Reduced.{Reduced}
+use Rattle.program_reducer.specs.Reductions as reduction
+use Rattle.race_report.specs.declared.race.Race.{Race}
+use Rattle.race_report.specs.Races.{IsReport}
+use Rattle.report_writer.specs.Reduced.{reduced_text}
 use Rattle.report_writer.specs.State.{state_text}
-use Rattle.report_writer.specs.Texts.{counted, isolated_text, run_text}
+use Rattle.report_writer.specs.Texts.{counted, isolated_text, races_text, run_text}
 use Rattle.dejavu_tool.specs.declared.status.Status.{Status}
 use Rattle.dejavu_tool.specs.declared.status.Status.TheVariants as status
 use Rattle.dejavu_tool.specs.Lines.{diverged_line, not_failing_line, not_found_line, not_passing_line, tests_spent_line, too_many_line}
@@ -80,6 +85,22 @@ pub record TellsIsolated (p : PlainProgram) (events : ℕ) (passing failing : Li
   pub found : Isolated
   pub isolation : IsIsolation p events passing failing tests found
   pub prints : printed ≡ isolated_text found.pass found.fail found.units found.asked found.unresolved
+
+-- the bytes spell what is left of the failing schedule, and how many of its times were kept, by how many tests, is what is printed
+pub record TellsReduced (p : PlainProgram) (events : ℕ) (failing : List ℕ) (tests : ℕ) (bytes printed : List ℕ) : Type 0 where
+  pub found : Reduced
+  pub reduction : reduction.IsReduction p events failing tests found
+  pub spelled : SpellsSchedule MOST_EVENTS found.schedule bytes
+  pub prints : printed ≡ reduced_text failing found.schedule found.asked found.unresolved
+
+-- the log leads the program to an end of its kind, and the races of that run are what is printed
+pub record TellsRaces (p : PlainProgram) (log : PlainLog) (printed : List ℕ) : Type 0 where
+  pub machine : MachineState
+  pub runs : run p (expansion log) ≡ Some machine
+  pub ends : option_map kind_of_end (end_of p machine log.budget) ≡ Some log.end
+  pub found : List Race
+  pub report : IsReport machine.history found
+  pub prints : printed ≡ races_text p found
 
 -- ---- a log that the program doesn't follow
 
@@ -148,3 +169,16 @@ IsolateStops p events passing failing tests status.NotPassing printed = TellsNot
 IsolateStops p events passing failing tests status.NotFailing printed = TellsNotFailing p events passing failing printed
 IsolateStops p events passing failing tests status.TestsSpent printed = NeedsMore p events passing failing tests × (printed ≡ tests_spent_line tests)
 IsolateStops p events passing failing tests _ printed = ⊥
+
+-- the run of the schedule that should fail ends in no fault
+pub record TellsNoFault (p : PlainProgram) (events : ℕ) (failing printed : List ℕ) : Type 0 where
+  pub end : End
+  pub ends : EndsSo p events failing end
+  pub no_fault : IsNoFault end
+  pub prints : printed ≡ not_failing_line p end
+
+-- nothing is reduced
+abbrev pub ReduceStops : PlainProgram → ℕ → List ℕ → ℕ → Status → List ℕ → Type 0
+ReduceStops p events failing tests status.NotFailing printed = TellsNoFault p events failing printed
+ReduceStops p events failing tests status.TestsSpent printed = reduction.NeedsMore p events failing tests × (printed ≡ tests_spent_line tests)
+ReduceStops p events failing tests _ printed = ⊥

@@ -23,36 +23,60 @@ use std::sync::Wait;
 use std::thread::Threads;
 use thread_driver::{Recording, ReplayFault, replay_still};
 use tool_io::Folder;
-use vm_model::Plain;
+use vm_model::{NoMemory, Plain};
 
-/// What is printed of a replay, or why there was none.
-fn text_of_run(
+/// A replay, or why there was none.
+fn judged(
     alloc: Global,
-    plain: &Plain,
-    log: &Log,
+    _plain: &Plain,
+    _log: &Log,
     replay: Result<Recording, ReplayFault>,
-) -> Result<Vec<u8>, Halt>
-    requires ok { IfOk replay (λ r. IsRecording plain.now r.log r.output.items r.end) }
-    requires log { IfOk replay (λ r. r.log ≡ log.now) }
-    requires err { IfErr replay (Refuses plain.now log.now) }
-    ensures run { IfOk result (λ text. TellsRun plain.now log.now text.items) }
-    ensures halts { IfErr result (HaltsBy (RunStops plain.now log.now)) }
+) -> Result<Recording, Halt>
+    requires ok { IfOk replay (λ r. IsRecording _plain.now r.log r.output.items r.end) }
+    requires log { IfOk replay (λ r. r.log ≡ _log.now) }
+    requires err { IfErr replay (Refuses _plain.now _log.now) }
+    ensures recording { IfOk result (λ r. IsRecording _plain.now r.log r.output.items r.end) }
+    ensures log { IfOk result (λ r. r.log ≡ _log.now) }
+    ensures halts { IfErr result (HaltsBy (RunStops _plain.now _log.now)) }
 {
     match replay {
-        Ok(run) => Ok(run_text(
-            alloc,
-            log.events(),
-            log.intervals().len() as u64,
-            &run.end,
-            &run.output,
-            plain.program(),
-        )?),
+        Ok(run) => Ok(run),
         Err(ReplayFault::Diverged { clock, thread }) => Err(Halt::Told(
             Status::Diverged,
             lines::diverged(alloc, clock, thread)?,
         )),
         Err(ReplayFault::NoMemory) => Err(Halt::Memory),
     }
+}
+
+/// The run that the log tells, on this thread.
+pub fn replayed(alloc: Global, plain: &Plain, log: &Log) -> Result<Recording, Halt>
+    ensures recording { IfOk result (λ r. IsRecording plain.now r.log r.output.items r.end) }
+    ensures log { IfOk result (λ r. r.log ≡ log.now) }
+    ensures halts { IfErr result (HaltsBy (RunStops plain.now log.now)) }
+{
+    judged(alloc, plain, log, replay_still(alloc, plain, log))
+}
+
+/// What is printed of the run that a log tells.
+fn text_of_run(
+    alloc: Global,
+    plain: &Plain,
+    _log: &Log,
+    run: &Recording,
+) -> Result<Vec<u8>, NoMemory>
+    requires recording { IsRecording plain.now run.now.log run.now.output.items run.now.end }
+    requires log { run.now.log ≡ _log.now }
+    ensures { IfOk result (λ text. TellsRun plain.now _log.now text.items) }
+{
+    run_text(
+        alloc,
+        run.log.events(),
+        run.log.intervals().len() as u64,
+        &run.end,
+        &run.output,
+        plain.program(),
+    )
 }
 
 /// The run that the log tells, by so many lanes. One lane is this thread.
@@ -89,8 +113,8 @@ pub fn replay_file<F: Folder>(
 {
     let shaped = load_program(alloc, program, folder)?;
     let kept = load_log(alloc, log, folder)?;
-    let replay = replay_still(alloc, shaped.plain(), &kept);
-    text_of_run(alloc, shaped.plain(), &kept, replay)
+    let run = replayed(alloc, shaped.plain(), &kept)?;
+    Ok(text_of_run(alloc, shaped.plain(), &kept, &run)?)
 }
 
 /// Replays the log of one file with the program of the other by 1 to 16 lanes. What is printed is the result.
@@ -111,5 +135,6 @@ pub fn replay_file_by<R: Threads + Wait + Sync, F: Folder, M: Meeting>(
     let shaped = load_program(alloc, program, folder)?;
     let kept = load_log(alloc, log, folder)?;
     let replay = replay_by(rt, alloc, shaped.plain(), &kept, lanes, meeting);
-    text_of_run(alloc, shaped.plain(), &kept, replay)
+    let run = judged(alloc, shaped.plain(), &kept, replay)?;
+    Ok(text_of_run(alloc, shaped.plain(), &kept, &run)?)
 }

@@ -4,7 +4,7 @@ ghost use Rattle.command_line.specs.Requests.{request_of};
 ghost use Rattle.dejavu_tool.specs.Answers.{Answers, Does, on_one_lane};
 ghost use Rattle.dejavu_tool.specs.Calls.{folder_call, sink_call};
 ghost use Rattle.dejavu_tool.specs.Completeness.{IsComplete};
-ghost use Rattle.dejavu_tool.specs.Headline.{CheckHolds, DeriveHolds, DrillHolds, IsolationHolds, RecordingHolds, ReplayHolds, RunHolds, SeekHolds, ShowHolds};
+ghost use Rattle.dejavu_tool.specs.Headline.{CheckHolds, DeriveHolds, DrillHolds, IsolationHolds, RacesHold, RecordingHolds, ReduceHolds, ReplayHolds, RunHolds, SeekHolds, ShowHolds};
 ghost use Rattle.dejavu_tool.specs.Stages.{Halts, HaltsBy, PutsUnlessFault, UsageTold};
 
 use crate::checking::check_file;
@@ -13,7 +13,9 @@ use crate::drilling::drill_file;
 use crate::halt::Halt;
 use crate::isolating::isolate_file;
 use crate::lines;
+use crate::racing::races_file;
 use crate::recording::{record_file, record_file_by};
+use crate::reducing::reduce_file;
 use crate::replaying::{replay_file, replay_file_by};
 use crate::running::run_file;
 use crate::seeking::seek_file;
@@ -90,6 +92,14 @@ fn done<H: Threads + Sync, F: Folder>(
         } => isolate_file(
             rt, alloc, program, pass, fail, tests, workers, events, folder,
         ),
+        Command::Reduce {
+            program,
+            fail,
+            schedule,
+            tests,
+            events,
+        } => reduce_file(rt, alloc, program, fail, schedule, tests, events, folder),
+        Command::Races { program, log } => races_file(alloc, program, log, folder),
         Command::Drill { workers, program } => drill_file(alloc, workers as u32, program, folder),
         Command::Unknown => unknown(alloc),
     }
@@ -234,6 +244,10 @@ pub fn dejavu<H: Threads + Wait + Sync, F: Folder, O: Sink, M: Meeting>(
     ensures seek { SeekHolds (request_of (map string_bytes words.now)) (folder_call F.is_told F.file F.load_faults F.store_faults folder.old folder.new) (sink_call O.is_told O.taken O.faults out.old out.new) result }
     // A finished isolation.
     ensures isolation { IsolationHolds (request_of (map string_bytes words.now)) (folder_call F.is_told F.file F.load_faults F.store_faults folder.old folder.new) (sink_call O.is_told O.taken O.faults out.old out.new) result }
+    // A finished reduction.
+    ensures reduction { ReduceHolds (request_of (map string_bytes words.now)) (folder_call F.is_told F.file F.load_faults F.store_faults folder.old folder.new) (sink_call O.is_told O.taken O.faults out.old out.new) result }
+    // A finished report of races.
+    ensures races { RacesHold (request_of (map string_bytes words.now)) (folder_call F.is_told F.file F.load_faults F.store_faults folder.old folder.new) (sink_call O.is_told O.taken O.faults out.old out.new) result }
     // A finished drill.
     ensures drill { DrillHolds (request_of (map string_bytes words.now)) (folder_call F.is_told F.file F.load_faults F.store_faults folder.old folder.new) (sink_call O.is_told O.taken O.faults out.old out.new) result }
     // When each status comes, and what it prints and leaves.

@@ -1,10 +1,11 @@
 -- How classes and methods are named in printed texts.
-use Rattle.std.specs.Prelude.{ℕ, if◌then◌else◌, nat_le, List, [], ◌∷◌, ◌++◌, Option, Some, None, slice_get, unwrap_or, codes}
+use Rattle.std.specs.Prelude.{ℕ, if◌then◌else◌, nat_le, List, [], ◌++◌, Option, Some, None, codes}
 use Rattle.std.specs.List.{flat_map}
 use Rattle.vm_model.specs.declared.limits.TheConstants.{FIRST_USER_CLASS}
 use Rattle.vm_model.specs.declared.value.Kind.{Kind}
 use Rattle.vm_model.specs.declared.value.Kind.TheVariants as kind
-use Rattle.vm_model.specs.Program.{PlainClass, PlainMethod, PlainProgram, class_at, method_at}
+use Rattle.vm_model.specs.declared.program.StaticSlot.{StaticSlot}
+use Rattle.vm_model.specs.Program.{PlainClass, PlainMethod, PlainProgram, class_at, method_at, static_at}
 use Rattle.built_in_classes.specs.Classes.{built_in_name}
 
 abbrev pub user_name : Option PlainClass → List ℕ
@@ -35,3 +36,11 @@ name_of_method p (Some m) =
 -- a method of the program, as CLASS/NAME with its descriptor
 abbrev pub method_name : PlainProgram → ℕ → List ℕ
 method_name p method = name_of_method p (method_at p method)
+
+abbrev pub name_of_slot : PlainProgram → Option StaticSlot → List ℕ
+name_of_slot p None = []
+name_of_slot p (Some slot) = class_name p slot.class ++ codes "/" ++ slot.name
+
+-- a static of the program, as CLASS/NAME
+abbrev pub static_name : PlainProgram → ℕ → List ℕ
+static_name p slot = name_of_slot p (static_at p slot)

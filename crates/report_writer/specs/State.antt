@@ -6,16 +6,14 @@ use Rattle.vm_model.specs.declared.value.Value.{Value}
 use Rattle.vm_model.specs.declared.value.Value.TheVariants as value
 use Rattle.vm_model.specs.declared.value.Lock.{Lock}
 use Rattle.vm_model.specs.declared.value.Lock.TheVariants as lock
-use Rattle.vm_model.specs.declared.program.StaticSlot.{StaticSlot}
-use Rattle.vm_model.specs.Program.{PlainProgram, static_at}
-use Rattle.machine_model.specs.declared.Row.{Row}
+use Rattle.vm_model.specs.Program.{PlainProgram}
 use Rattle.machine_model.specs.declared.RowState.{RowState}
 use Rattle.machine_model.specs.declared.RowState.TheVariants as row_state
 use Rattle.machine_model.specs.Machine.{MachineState}
 use Rattle.machine_model.specs.Shared.{SharedState, monitor_at, words_of}
 use Rattle.shared_world.specs.Reading.{lock_state_of, state_of}
 use Rattle.shared_world.specs.declared.world.LockState.{LockState}
-use Rattle.report_writer.specs.Names.{class_name}
+use Rattle.report_writer.specs.Names.{class_name, static_name}
 use Rattle.report_writer.specs.Texts.{counted, line_feed}
 
 -- ---- statics
@@ -28,18 +26,13 @@ value_words (value.Arr id len) = codes "arr " ++ decimal id
 value_words (value.Text text) = codes "text " ++ decimal text
 value_words value.Stream = codes "stream"
 
--- a static, as CLASS/NAME
-abbrev pub static_name : PlainProgram → Option StaticSlot → List ℕ
-static_name p None = []
-static_name p (Some slot) = class_name p slot.class ++ codes "/" ++ slot.name
-
 -- what is held, where there is something
 abbrev pub held_words : Option Value → List ℕ
 held_words None = []
 held_words (Some v) = value_words v
 
 abbrev pub static_line : PlainProgram → SharedState → ℕ → List ℕ
-static_line p s slot = codes "static " ++ static_name p (static_at p slot) ++ codes " " ++ held_words (slice_get s.statics slot) ++ line_feed
+static_line p s slot = codes "static " ++ static_name p slot ++ codes " " ++ held_words (slice_get s.statics slot) ++ line_feed
 
 -- ---- threads
 

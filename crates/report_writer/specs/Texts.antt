@@ -7,7 +7,10 @@ use Rattle.vm_model.specs.declared.ends.Fault.{Fault}
 use Rattle.vm_model.specs.declared.ends.FaultKind.{FaultKind}
 use Rattle.vm_model.specs.declared.ends.FaultKind.TheVariants as fault
 use Rattle.vm_model.specs.Program.{PlainProgram}
-use Rattle.report_writer.specs.Names.{class_name, method_name}
+use Rattle.race_report.specs.declared.place.Place.{Place}
+use Rattle.race_report.specs.declared.place.Place.TheVariants as place
+use Rattle.race_report.specs.declared.race.Race.{Race}
+use Rattle.report_writer.specs.Names.{class_name, method_name, static_name}
 
 abbrev pub line_feed : List ℕ
 line_feed = 10 ∷ []
@@ -72,3 +75,22 @@ abbrev pub isolated_text : List ℕ → List ℕ → ℕ → ℕ → ℕ → Lis
 isolated_text passing failing units asked unresolved =
     times_line (codes "pass") passing ++ times_line (codes "fail") failing ++ place_lines passing failing
     ++ counted (codes "units") units ++ counted (codes "asked") asked ++ counted (codes "unresolved") unresolved
+
+-- ---- races
+
+abbrev pub place_words : PlainProgram → Place → List ℕ
+place_words p (place.Static slot) = codes "static " ++ static_name p slot
+place_words p (place.Field obj number) = codes "obj " ++ decimal obj ++ codes " place " ++ decimal number
+place_words p (place.Item arr index) = codes "arr " ++ decimal arr ++ codes " index " ++ decimal index
+
+-- an access: its clock and its thread
+abbrev pub access_words : ℕ → ℕ → List ℕ
+access_words clock thread = decimal clock ++ codes " thread " ++ decimal thread
+
+abbrev pub race_line : PlainProgram → Race → List ℕ
+race_line p r =
+    codes "race " ++ place_words p r.place ++ codes " first " ++ access_words r.first r.first_thread ++ codes " second " ++ access_words r.second r.second_thread ++ line_feed
+
+-- a report of races: how many there are, and a line for each
+abbrev pub races_text : PlainProgram → List Race → List ℕ
+races_text p found = counted (codes "races") (length found) ++ flat_map (race_line p) found

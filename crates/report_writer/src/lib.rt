@@ -3,10 +3,17 @@
 
 mod isolation;
 mod names;
+mod races;
+mod reduced;
 mod report;
 mod state;
 
 pub use isolation::isolated_text;
 pub use names::{put, put_method, put_number};
+pub use races::races_text;
+pub use reduced::reduced_text;
 pub use report::{end_text, put_counted, run_text};
 pub use state::state_text;
+
+#[cfg(test)]
+mod tests;

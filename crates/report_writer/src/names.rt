@@ -1,10 +1,10 @@
 ghost use Rattle.std.specs.Prelude.{◌≡◌, ◌++◌, List, ℕ, OnOk, decimal, Some, [], slice_get, unwrap_or};
 ghost use Rattle.std.specs.List.{flat_map};
-ghost use Rattle.report_writer.specs.Names.{class_name, descriptor as descriptor_text, method_name, name_of_method, return_descriptor};
+ghost use Rattle.report_writer.specs.Names.{class_name, descriptor as descriptor_text, method_name, name_of_method, name_of_slot, return_descriptor, static_name};
 
 use built_in_classes::built_in_name;
 use itoa::Buffer;
-use vm_model::{FIRST_USER_CLASS, Kind, Method, NoMemory, Program};
+use vm_model::{FIRST_USER_CLASS, Kind, Method, NoMemory, Program, StaticSlot};
 
 /// Adds bytes at the end.
 pub fn put(out: &mut Vec<u8>, bytes: &[u8]) -> Result<(), NoMemory>
@@ -95,6 +95,24 @@ pub fn put_method(out: &mut Vec<u8>, program: &Program, method: u32) -> Result<(
 {
     match program.method(method) {
         Some(method) => put_named(out, program, method),
+        None => Ok(()),
+    }
+}
+
+fn put_slot_name(out: &mut Vec<u8>, program: &Program, slot: &StaticSlot) -> Result<(), NoMemory>
+    ensures { OnOk result (out.new.items ≡ out.old.items ++ name_of_slot program.now (Some slot.now)) }
+{
+    put_class(out, program, slot.class)?;
+    put(out, b"/")?;
+    put(out, slot.name.bytes())
+}
+
+/// Adds a static of the program, as its class and its name.
+pub fn put_static_name(out: &mut Vec<u8>, program: &Program, slot: u32) -> Result<(), NoMemory>
+    ensures { OnOk result (out.new.items ≡ out.old.items ++ static_name program.now slot) }
+{
+    match program.static_slot(slot) {
+        Some(slot) => put_slot_name(out, program, slot),
         None => Ok(()),
     }
 }

@@ -2,20 +2,19 @@
 
 ghost use Rattle.std.specs.Prelude.{◌≡◌, ◌<◌, ◌≤◌, ◌+◌, ◌^◌, ◌++◌, List, ℕ, Option, Some, OnOk, IfOk, length, option_map, slice_get, decimal};
 ghost use Rattle.std.specs.Fmt.{signed_decimal};
-ghost use Rattle.vm_model.specs.Program.{static_at};
 ghost use Rattle.machine_model.specs.Shared.{monitor_at};
 ghost use Rattle.shared_world.specs.Reading.{lock_state_of};
 ghost use Rattle.event_machine.specs.MachineView.{machine_of};
 ghost use Rattle.report_writer.specs.State as spec;
 ghost use Rattle.report_writer.specs.Names.{class_name};
 
-use crate::names::{put, put_class, put_number};
+use crate::names::{put, put_class, put_number, put_static_name};
 use crate::report::put_counted;
 use event_machine::Machine;
 use machine_model::RowState;
 use shared_world::{LockState, World};
 use std::alloc::Global;
-use vm_model::{Lock, NoMemory, Program, StaticSlot, Value};
+use vm_model::{Lock, NoMemory, Program, Value};
 
 /// Adds a number with its sign, in decimal.
 fn put_signed(out: &mut Vec<u8>, alloc: Global, n: i32) -> Result<(), NoMemory>
@@ -44,23 +43,6 @@ fn put_value(out: &mut Vec<u8>, alloc: Global, value: Value) -> Result<(), NoMem
             put_number(out, u64::from(text))
         }
         Value::Stream => put(out, b"stream"),
-    }
-}
-
-fn put_slot_name(out: &mut Vec<u8>, program: &Program, slot: &StaticSlot) -> Result<(), NoMemory>
-    ensures { OnOk result (out.new.items ≡ out.old.items ++ spec.static_name program.now (Some slot.now)) }
-{
-    put_class(out, program, slot.class)?;
-    put(out, b"/")?;
-    put(out, slot.name.bytes())
-}
-
-fn put_static_name(out: &mut Vec<u8>, program: &Program, slot: u32) -> Result<(), NoMemory>
-    ensures { OnOk result (out.new.items ≡ out.old.items ++ spec.static_name program.now (static_at program.now slot)) }
-{
-    match program.static_slot(slot) {
-        Some(slot) => put_slot_name(out, program, slot),
-        None => Ok(()),
     }
 }
 

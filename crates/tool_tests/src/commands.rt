@@ -1149,6 +1149,177 @@ const SEARCHES: &[Row] = &[
     },
 ];
 
+const RACES: &[Row] = &[
+    Row {
+        words: &["races", "P", "L"],
+        files: &[
+            File {
+                name: "P",
+                bytes: WRITERS,
+            },
+            File {
+                name: "L",
+                bytes: WRITERS_LOG,
+            },
+        ],
+        folder: &[],
+        sink: &[],
+        status: Status::Ok,
+        text: b"races 1\nrace static W/n first 5 thread 1 second 7 thread 2\n",
+        stored: None,
+    },
+    Row {
+        words: &["races", "P", "L"],
+        files: &[
+            File {
+                name: "P",
+                bytes: SUM,
+            },
+            File {
+                name: "L",
+                bytes: SUM_LOG,
+            },
+        ],
+        folder: &[],
+        sink: &[],
+        status: Status::Ok,
+        text: b"races 0\n",
+        stored: None,
+    },
+    Row {
+        words: &["races", "P", "L"],
+        files: &[
+            File {
+                name: "P",
+                bytes: SUM,
+            },
+            File {
+                name: "L",
+                bytes: b"\x44\x4A\x56\x4C\x01\x80\x80\x40\x01\x01\x00\x17\xF0",
+            },
+        ],
+        folder: &[],
+        sink: &[],
+        status: Status::Diverged,
+        text: b"diverged at 23 thread 0\n",
+        stored: None,
+    },
+    Row {
+        words: &["races", "P", "L"],
+        files: &[
+            File {
+                name: "P",
+                bytes: SUM,
+            },
+            File {
+                name: "L",
+                bytes: b"\x44\x4A\x56\x4C\x01\x80\x80\x40\x01\x01\x00\x15\xF0",
+            },
+        ],
+        folder: &[],
+        sink: &[],
+        status: Status::Diverged,
+        text: b"diverged at 22 at the end\n",
+        stored: None,
+    },
+    Row {
+        words: &["races", "P", "L"],
+        files: &[
+            File {
+                name: "P",
+                bytes: SUM,
+            },
+            File {
+                name: "L",
+                bytes: b"x",
+            },
+        ],
+        folder: &[],
+        sink: &[],
+        status: Status::LogRefused,
+        text: b"log refused: 1 at 0\n",
+        stored: None,
+    },
+];
+
+const REDUCTIONS: &[Row] = &[
+    Row {
+        words: &["reduce", "P", "F", "O", "--events", "20"],
+        files: &[
+            File {
+                name: "P",
+                bytes: WRITERS,
+            },
+            File {
+                name: "F",
+                bytes: b"5\n20\n",
+            },
+        ],
+        folder: &[],
+        sink: &[],
+        status: Status::Ok,
+        text: b"kept 1 of 2\nasked 2\nunresolved 0\n",
+        stored: Some(File {
+            name: "O",
+            bytes: b"5\n",
+        }),
+    },
+    Row {
+        words: &["reduce", "P", "F", "O", "--tests", "1", "--events", "20"],
+        files: &[
+            File {
+                name: "P",
+                bytes: WRITERS,
+            },
+            File {
+                name: "F",
+                bytes: b"5\n20\n",
+            },
+        ],
+        folder: &[],
+        sink: &[],
+        status: Status::TestsSpent,
+        text: b"tests spent 1\n",
+        stored: None,
+    },
+    Row {
+        words: &["reduce", "P", "F", "O", "--events", "20"],
+        files: &[
+            File {
+                name: "P",
+                bytes: WRITERS,
+            },
+            File {
+                name: "F",
+                bytes: b"6\n",
+            },
+        ],
+        folder: &[],
+        sink: &[],
+        status: Status::NotFailing,
+        text: b"not failing: end done\n",
+        stored: None,
+    },
+    Row {
+        words: &["reduce", "P", "F", "O", "--events", "20"],
+        files: &[
+            File {
+                name: "P",
+                bytes: WRITERS,
+            },
+            File {
+                name: "F",
+                bytes: b"21\n",
+            },
+        ],
+        folder: &[],
+        sink: &[],
+        status: Status::ScheduleRefused,
+        text: b"schedule refused: 3 at 0\n",
+        stored: None,
+    },
+];
+
 const ISOLATIONS: &[Row] = &[
     Row {
         words: &["isolate", "P", "A", "B"],
@@ -1553,6 +1724,22 @@ fn isolations(rt: HostRuntime) -> Result<(), Fail> {
 #[test]
 fn drills(rt: HostRuntime) -> Result<(), Fail> {
     for row in DRILLS {
+        assert!(rt; is_right(&rt, rt.alloc(), row)?, "{:?}", row.words);
+    }
+    Ok(())
+}
+
+#[test]
+fn races(rt: HostRuntime) -> Result<(), Fail> {
+    for row in RACES {
+        assert!(rt; is_right(&rt, rt.alloc(), row)?, "{:?}", row.words);
+    }
+    Ok(())
+}
+
+#[test]
+fn reductions(rt: HostRuntime) -> Result<(), Fail> {
+    for row in REDUCTIONS {
         assert!(rt; is_right(&rt, rt.alloc(), row)?, "{:?}", row.words);
     }
     Ok(())

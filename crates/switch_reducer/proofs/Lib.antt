@@ -1,0 +1,11 @@
+pub mod Ordered
+pub mod Within
+pub mod Cutting
+pub mod Falling
+pub mod Searching
+pub mod Minimal
+pub mod Bounds
+pub mod Asking
+pub mod Deciding
+pub mod Stating
+pub mod Going
