@@ -1,10 +1,11 @@
 -- What a run shows, and how many of the tests that count are unresolved.
-use Rattle.std.proofs.Common.{◌≡◌, ℕ, ◌+◌, ◌<◌, ◌≤◌, true, List, length, get_or, take, refl, sym, ◌∙◌, ap, subst, arith, []}
-use Rattle.std.specs.Prelude.{Option, Some, None}
+use Rattle.std.proofs.Common.{◌≡◌, ℕ, ◌+◌, List, length, take, sym, ◌∙◌, ap, subst, arith, []}
+use Rattle.std.specs.Prelude.{Option, Some}
 use Rattle.vm_model.specs.declared.ends.End.{End}
 use Rattle.vm_model.specs.declared.ends.Fault.{Fault}
 use Rattle.vm_model.specs.Program.{PlainProgram}
-use Rattle.machine_model.specs.Machine.{MachineState}
+use Rattle.machine_model.specs.Machine.{MachineState, run}
+use Rattle.machine_model.specs.Ring.{schedule_threads}
 use Rattle.schedule_log.specs.declared.interval.Interval.{Interval}
 use Rattle.schedule_model.specs.declared.outcome.Outcome.{Outcome}
 use Rattle.schedule_model.specs.declared.rounds.Found.TheVariants.{Resolved, NoneResolved}
@@ -20,6 +21,11 @@ pub outcome_is : (p : PlainProgram) (times : List ℕ) (events : ℕ) (fault : F
 unfolding outcome_of
 outcome_is p times events fault intervals clock output e r =
     ap (λ (m : Option MachineState). outcome_of_end fault (end_under p events m)) r.runs ∙ ap (outcome_of_end fault) r.ended
+
+-- the end of a run decides
+pub end_shows : (p : PlainProgram) (times : List ℕ) (events : ℕ) (fault : Fault) (e : End) (o : Outcome) → end_under p events (run p (schedule_threads p times events)) ≡ Some e → o ≡ outcome_of_end fault (Some e) → outcome_of p events fault times ≡ o
+unfolding outcome_of
+end_shows p times events fault e o ended shows = ap (outcome_of_end fault) ended ∙ sym shows
 
 pub resolved_counted : (outcome : List ℕ → Outcome) (tests : List (List ℕ)) (at : ℕ) (o : Outcome) → IsFirstResolved outcome tests (Resolved at o) → unresolved_among outcome (take (at + 1) tests) ≡ at
 resolved_counted outcome tests at o first = resolved_next outcome tests at first.0 (ap is_resolved (first.2 []) ∙ first.1) first.3

@@ -1,8 +1,7 @@
 -- What tests showed, by their times in order.
-use Rattle.std.specs.Prelude.{◌≡◌, ◌≤◌, ℕ, nat_eq, List, ◌∷◌, ◌++◌, [], length, All, Option, map, sum_by, Vec, ◌⊎◌}
+use Rattle.std.specs.Prelude.{◌≡◌, ℕ, nat_eq, List, ◌∷◌, ◌++◌, [], length, All, Option, sum_by, ◌⊎◌}
 use Rattle.std.specs.Map.{lookup}
 use Rattle.std.specs.Cmp.Lexicographic.{pointwise}
-use Rattle.indexmap.specs.IndexMap.{IndexMap}
 use Rattle.schedule_model.specs.declared.outcome.Outcome.{Outcome}
 
 abbrev pub Rows : Type 0

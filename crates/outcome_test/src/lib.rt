@@ -3,6 +3,7 @@
 
 mod judging;
 mod memo;
+mod resuming;
 mod serial;
 mod side;
 mod starter;

@@ -2,6 +2,8 @@
 
 ghost use Rattle.std.specs.Prelude.{IsPermutation};
 ghost use Rattle.outcome_test.specs.Memos.{Remembers};
+ghost use Rattle.outcome_test.specs.Resumed.{AreUnder};
+ghost use Rattle.thread_driver.specs.Waiting.{Rises};
 ghost use Rattle.std.specs.Prelude.{◌≡◌, ◌≤◌, ◌<◌, ◌+◌, ◌^◌, None, length, All, IfOk};
 ghost use Rattle.vm_model.specs.declared.ends.Fault.{Fault};
 ghost use Rattle.machine_model.specs.Machine.{end_of, start_machine};
@@ -10,21 +12,24 @@ ghost use Rattle.schedule_model.specs.Outcomes.{outcome_of};
 ghost use Rattle.switch_schedule.proofs.Alike.{reads_counts};
 ghost use Rattle.outcome_test.specs.Rounds.{counted};
 
-use crate::judging::outcome_of;
+use crate::judging::outcome;
 use crate::memo::Memo;
+use crate::resuming::Resumed;
 use schedule_model::{Found, Outcome, Rounds, Schedule};
 use std::alloc::Global;
 use std::marker::Model;
 use vm_model::{Fault, NoMemory, Plain};
 
 /// Rounds on one thread of the tool's own: tests are run in order, up to the first resolved one. What a test showed is
-/// remembered, of at most 4,096 tests with at most 4,194,304 times in all, and no such test is run again.
+/// remembered, of at most 4,096 tests with at most 4,194,304 times in all, and no such test is run again. At most 16 runs are
+/// kept, each paused where it parted from an earlier one, and a test goes on from the one of them that has most of its run.
 #[derive(Drop)]
 pub struct SerialRounds<'a> {
     plain: &'a Plain,
     fault: Fault,
     events: u64,
     memo: Memo,
+    runs: Resumed,
     resolved: u64,
     unresolved: u64,
 }
@@ -59,28 +64,38 @@ impl<'a> SerialRounds<'a> {
             fault,
             events,
             memo: Memo::new(alloc),
+            runs: Resumed::new(alloc),
             resolved: 0,
             unresolved: 0,
         })
+    }
+
+    /// How many events were made by tests that were run to their ends, without those that they had from paused runs. It stays at
+    /// 2^64 - 1 once it is there. It takes no memory.
+    pub fn turns(&self) -> u64 {
+        self.runs.turns()
     }
 }
 
 /// Times in rising order.
 fn in_order(alloc: Global, times: &[u32]) -> Result<Vec<u32>, NoMemory>
-    ensures { IfOk result (λ sorted. IsPermutation times.now sorted.items) }
+    ensures same { IfOk result (λ sorted. IsPermutation times.now sorted.items) }
+    ensures rising { IfOk result (λ sorted. Rises 0 sorted.items) }
+    ensures size { IfOk result (λ sorted. length sorted.items ≡ length times.now) }
 {
     let mut sorted = Vec::from_slice(alloc, times)?;
     sorted.sort_unstable();
     Ok(sorted)
 }
 
-/// What a test shows: as it is remembered, or else by its run from the start of the program.
+/// What a test shows: as it is remembered, or else by its run.
 fn shown(
     alloc: Global,
     plain: &Plain,
     fault: &Fault,
     events: u64,
     memo: &mut Memo,
+    runs: &mut Resumed,
     test: &Schedule,
 ) -> Result<Outcome, NoMemory>
     requires few { length test.now ≤ 16384 }
@@ -88,14 +103,18 @@ fn shown(
     requires limit { events ≤ 1048576 }
     requires begins { end_of plain.now (start_machine plain.now) events ≡ None }
     requires remembers { Remembers (outcome_of plain.now events fault.now) memo.old }
+    requires under { AreUnder plain.now events runs.old }
     ensures shows { IfOk result (λ o. outcome_of plain.now events fault.now test.now ≡ o) }
     ensures remembers { Remembers (outcome_of plain.now events fault.now) memo.new }
+    ensures under { AreUnder plain.now events runs.new }
 {
     let sorted = in_order(alloc, &test.times)?;
     if let Some(shown) = memo.shown(sorted.as_slice()) {
         return Ok(shown);
     }
-    let shown = outcome_of(alloc, plain, fault, events, test)?;
+    let times = Vec::from_slice(alloc, &sorted)?;
+    let end = runs.end_of(alloc, plain, times, events)?;
+    let shown = outcome(&end, fault);
     memo.remember(sorted, shown)?;
     Ok(shown)
 }
@@ -107,6 +126,7 @@ fn first_of(
     fault: &Fault,
     events: u64,
     memo: &mut Memo,
+    runs: &mut Resumed,
     tests: &[Schedule],
 ) -> Result<Found, NoMemory>
     requires few { length tests.now < 2 ^ 32 }
@@ -115,11 +135,13 @@ fn first_of(
     requires limit { events ≤ 1048576 }
     requires begins { end_of plain.now (start_machine plain.now) events ≡ None }
     requires remembers { Remembers (outcome_of plain.now events fault.now) memo.old }
+    requires under { AreUnder plain.now events runs.old }
     ensures first { IfOk result (IsFirstResolved (outcome_of plain.now events fault.now) tests.now) }
     ensures remembers { Remembers (outcome_of plain.now events fault.now) memo.new }
+    ensures under { AreUnder plain.now events runs.new }
 {
     for i in 0..tests.len() {
-        let outcome = shown(alloc, plain, fault, events, memo, &tests[i])?;
+        let outcome = shown(alloc, plain, fault, events, memo, runs, &tests[i])?;
         match outcome {
             Outcome::Pass => return Ok(Found::Resolved {
                 at: i as u32,
@@ -155,6 +177,7 @@ impl<'a> Rounds for SerialRounds<'a> {
             &self.fault,
             self.events,
             &mut self.memo,
+            &mut self.runs,
             tests,
         )?;
         match found {

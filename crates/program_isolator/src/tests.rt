@@ -306,3 +306,42 @@ fn tests_count_in_order(rt: HostRuntime) -> Result<(), Fail> {
     }
     Ok(())
 }
+
+/// How many events four tests of one time each make, one after another, where each of them passes.
+fn turns_of(alloc: Global, times: [u32; 4], events: u64) -> Result<Option<u64>, NoMemory>
+    requires some { 1 ≤ events }
+    requires limit { events ≤ 1048576 }
+{
+    let plain = two_writers(alloc)?;
+    if !begins(alloc, &plain, events)? {
+        return Ok(None);
+    }
+    let mut rounds = SerialRounds::new(alloc, &plain, LOST, events)?;
+    for time in times {
+        let mut tests = Vec::new(alloc);
+        tests.push(schedule(alloc, &[time])?)?;
+        match rounds.first_resolved(alloc, tests.as_slice())? {
+            Found::Resolved {
+                at: 0,
+                outcome: Outcome::Pass,
+            } => {}
+            _ => return Ok(None),
+        }
+    }
+    Ok(Some(rounds.turns()))
+}
+
+// Four runs from the start have 14 events each.
+#[test]
+fn tests_go_on_from_paused_runs(rt: HostRuntime) -> Result<(), Fail> {
+    let alloc = rt.alloc();
+    match turns_of(alloc, [13, 9, 7, 6], 20)? {
+        Some(turns) => assert!(rt; turns > 0 && turns < 56),
+        None => assert!(rt; false),
+    }
+    match turns_of(alloc, [13, 13, 13, 13], 20)? {
+        Some(turns) => assert!(rt; turns == 14),
+        None => assert!(rt; false),
+    }
+    Ok(())
+}

@@ -1,6 +1,5 @@
-use Rattle.std.proofs.Common.{◌≡◌, ◌+◌, ◌≤◌, subst, arith, length, List, ℕ}
+use Rattle.std.proofs.Common.{◌+◌, subst, arith, ℕ}
 use Rattle.std.specs.List.{slice_range}
-use Rattle.schedule_model.specs.declared.rounds.Found.{Found}
 use Rattle.schedule_model.specs.Outcomes.{outcome_of}
 use Rattle.schedule_model.specs.Finds.{IsFirstResolved}
 use Rattle.outcome_test.proofs.Groups.{first_later, none_later}

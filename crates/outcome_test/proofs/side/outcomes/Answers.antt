@@ -1,4 +1,4 @@
-use Rattle.std.proofs.Common.{◌≡◌, ap, ◌∙◌}
+use Rattle.std.proofs.Common.{ap, ◌∙◌}
 use Rattle.rayon.proofs.ToStd.{slice-AllZip}
 use Rattle.schedule_model.specs.Outcomes.{outcome_of}
 use Rattle.outcome_test.specs.Rounds.{Shows}

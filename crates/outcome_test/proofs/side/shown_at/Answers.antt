@@ -1,7 +1,3 @@
-use Rattle.std.proofs.Common.{◌≡◌, get_or}
-use Rattle.std.specs.Prelude.{Result, Ok, Err}
-use Rattle.outcome_test.proofs.Shown.{zip_at}
-use Rattle.outcome_test.specs.Rounds.{Shows}
 use Rattle.schedule_model.specs.Outcomes.{outcome_of}
 use Rattle.outcome_test.proofs.Shown.{shown_holds}
 use Rattle.outcome_test.proofs.side.shown_at.Goals as goal

@@ -1,7 +1,7 @@
-use Rattle.std.proofs.Common.{◌≡◌, ◌++◌, ◌∷◌, [], ap, sym, ◌∙◌, map, length, inr, subst, ◌≤◌, arith}
+use Rattle.std.proofs.Common.{◌≡◌, ◌++◌, ◌∷◌, [], ap, sym, ◌∙◌, map, length, inr, arith}
 use Rattle.std.proofs.lemmas.List.{length-map}
-use Rattle.outcome_test.specs.Memos.{Rows, MayAdd, times_in}
-use Rattle.outcome_test.proofs.Rows.{row, add-new, room_kept, HasRoom}
+use Rattle.outcome_test.specs.Memos.{Rows}
+use Rattle.outcome_test.proofs.Rows.{row, add-new, room_kept}
 use Rattle.outcome_test.proofs.memo.Memo.remember.Goals as goal
 
 pub invariant_of-self-then-size-self : goal.invariant_of-self-then-size-self

@@ -1,0 +1,4 @@
+pub mod Alike
+pub mod Passed
+pub mod Resumed
+pub mod Kept

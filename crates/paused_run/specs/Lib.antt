@@ -1,0 +1,4 @@
+pub mod Pauses
+pub mod Partings
+pub mod PausedView
+pub mod Laws

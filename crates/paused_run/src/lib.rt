@@ -1,0 +1,8 @@
+//! Runs of schedules that pause, and go on under other schedules.
+#![tactic(auto)]
+
+pub mod laws;
+mod paused;
+mod waiting;
+
+pub use paused::Paused;
