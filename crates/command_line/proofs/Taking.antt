@@ -5,7 +5,7 @@ use Rattle.clap.specs.Words.{App, HasMatchesOf, IsAmong, Kinds, fault_of, first_
 use Rattle.clap.specs.declared.parser.matches.ArgMatches.{ArgMatches}
 use Rattle.clap.specs.declared.error.kind.ErrorKind.{ErrorKind}
 use Rattle.clap.specs.declared.error.kind.ErrorKind.TheVariants.{OutOfMemory}
-use Rattle.command_line.specs.Commands.{Word, Check, Record, Replay, Show, Derive, Run, Seek, Isolate, Reduce, Races, Drill, app_of_word, check_app, record_app, replay_app, show_app, derive_app, run_app, seek_app, isolate_app, reduce_app, races_app, drill_app}
+use Rattle.command_line.specs.Commands.{Word, Check, Record, Replay, Show, Derive, Run, Seek, Isolate, Reduce, Races, Tiles, Drill, app_of_word, check_app, record_app, replay_app, show_app, derive_app, run_app, seek_app, isolate_app, reduce_app, races_app, tiles_app, drill_app}
 use Rattle.command_line.specs.Requests.{is_none, is_taken, request_with}
 use Rattle.command_line.specs.Requests as request
 use Rattle.command_line.specs.Plain.{Reads, plain_command}
@@ -13,7 +13,7 @@ use Rattle.command_line.specs.declared.command.Command as code
 
 -- each command is one of which clap says exactly what it takes
 pub free : (w : Word) → is_simple_and_free (app_of_word w) ≡ true
-unfolding check_app record_app replay_app show_app derive_app run_app seek_app isolate_app reduce_app races_app drill_app
+unfolding check_app record_app replay_app show_app derive_app run_app seek_app isolate_app reduce_app races_app tiles_app drill_app
 free Check = refl
 free Record = refl
 free Replay = refl
@@ -24,10 +24,11 @@ free Seek = refl
 free Isolate = refl
 free Reduce = refl
 free Races = refl
+free Tiles = refl
 free Drill = refl
 
 pub simple : (w : Word) → is_simple (app_of_word w) ≡ true
-unfolding check_app record_app replay_app show_app derive_app run_app seek_app isolate_app reduce_app races_app drill_app
+unfolding check_app record_app replay_app show_app derive_app run_app seek_app isolate_app reduce_app races_app tiles_app drill_app
 simple Check = refl
 simple Record = refl
 simple Replay = refl
@@ -38,6 +39,7 @@ simple Seek = refl
 simple Isolate = refl
 simple Reduce = refl
 simple Races = refl
+simple Tiles = refl
 simple Drill = refl
 
 some_fault : (k : ErrorKind) (kinds : Kinds) → IsAmong k kinds → is_none kinds ≡ false

@@ -80,6 +80,9 @@ reduce_app = with_events (with_tests (with_text (codes "OUT") (with_text (codes 
 unfoldable pub races_app : App
 races_app = with_text (codes "LOG") (with_text (codes "P") (bare (codes "races")))
 
+unfoldable pub tiles_app : App
+tiles_app = with_text (codes "LOG") (bare (codes "tiles"))
+
 unfoldable pub drill_app : App
 drill_app = with_text (codes "P") (with_number (codes "K") 1 60 (bare (codes "drill")))
 
@@ -96,6 +99,7 @@ pub data Word : Type 0 where
   Isolate : Word
   Reduce : Word
   Races : Word
+  Tiles : Word
   Drill : Word
 
 -- the command of a first word, which is compared exactly
@@ -111,6 +115,7 @@ word_of first =
     if bytes_eq first (codes "isolate") then Some Isolate else
     if bytes_eq first (codes "reduce") then Some Reduce else
     if bytes_eq first (codes "races") then Some Races else
+    if bytes_eq first (codes "tiles") then Some Tiles else
     if bytes_eq first (codes "drill") then Some Drill else None
 
 abbrev pub app_of_word : Word → App
@@ -124,4 +129,5 @@ app_of_word Seek = seek_app
 app_of_word Isolate = isolate_app
 app_of_word Reduce = reduce_app
 app_of_word Races = races_app
+app_of_word Tiles = tiles_app
 app_of_word Drill = drill_app

@@ -18,6 +18,7 @@ plain_command (command.Seek program seed tries schedule events) = request.Seek p
 plain_command (command.Isolate program pass fail tests workers events) = request.Isolate program.now pass.now fail.now tests workers events
 plain_command (command.Reduce program fail schedule tests events) = request.Reduce program.now fail.now schedule.now tests events
 plain_command (command.Races program log) = request.Races program.now log.now
+plain_command (command.Tiles log) = request.Tiles log.now
 plain_command (command.Drill workers program) = request.Drill workers program.now
 plain_command command.Unknown = request.Unknown
 
@@ -39,6 +40,7 @@ IsWithin (command.Seek program seed tries schedule events) = (1 ≤ tries) × (t
 IsWithin (command.Isolate program pass fail tests workers events) = (1 ≤ tests) × (tests ≤ 1099511627776) × (1 ≤ workers) × (workers ≤ 16) × (1 ≤ events) × (events ≤ 1048576)
 IsWithin (command.Reduce program fail schedule tests events) = (1 ≤ tests) × (tests ≤ 1099511627776) × (1 ≤ events) × (events ≤ 1048576)
 IsWithin (command.Races program log) = Unit {0}
+IsWithin (command.Tiles log) = Unit {0}
 IsWithin (command.Drill workers program) = (1 ≤ workers) × (workers ≤ 60)
 IsWithin command.Unknown = Unit {0}
 

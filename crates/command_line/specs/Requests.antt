@@ -28,6 +28,8 @@ pub data Request : Type 0 where
   Reduce : List ℕ → List ℕ → List ℕ → ℕ → ℕ → Request
   -- a program, a log
   Races : List ℕ → List ℕ → Request
+  -- a log
+  Tiles : List ℕ → Request
   -- how many workers, a program
   Drill : ℕ → List ℕ → Request
   -- no command
@@ -71,6 +73,7 @@ request_with word.Isolate rows =
     Isolate (text_in (codes "P") rows) (text_in (codes "PASS") rows) (text_in (codes "FAIL") rows) (tests_in rows) (number_in (codes "workers") 1 16 rows) (events_in rows)
 request_with word.Reduce rows = Reduce (text_in (codes "P") rows) (text_in (codes "FAIL") rows) (text_in (codes "OUT") rows) (tests_in rows) (events_in rows)
 request_with word.Races rows = Races (text_in (codes "P") rows) (text_in (codes "LOG") rows)
+request_with word.Tiles rows = Tiles (text_in (codes "LOG") rows)
 request_with word.Drill rows = Drill (number_in (codes "K") 1 60 rows) (text_in (codes "P") rows)
 
 abbrev pub is_none : Kinds → Bool

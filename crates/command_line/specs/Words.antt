@@ -14,4 +14,5 @@ plain_word word.Seek = spec.Seek
 plain_word word.Isolate = spec.Isolate
 plain_word word.Reduce = spec.Reduce
 plain_word word.Races = spec.Races
+plain_word word.Tiles = spec.Tiles
 plain_word word.Drill = spec.Drill

@@ -22,6 +22,7 @@ pub(crate) enum Word {
     Isolate,
     Reduce,
     Races,
+    Tiles,
     Drill,
 }
 
@@ -187,6 +188,13 @@ fn races<'a>(alloc: Global) -> Result<Command<'a>, AllocError>
     with_text(command, alloc, "LOG")
 }
 
+#[tactic(auto, unfolding(crate::specs::Commands::tiles_app))]
+fn tiles<'a>(alloc: Global) -> Result<Command<'a>, AllocError>
+    ensures { IfOk result (λ c. app_of c ≡ spec.tiles_app) }
+{
+    with_text(bare(alloc, "tiles"), alloc, "LOG")
+}
+
 #[tactic(auto, unfolding(crate::specs::Commands::drill_app))]
 fn drill<'a>(alloc: Global) -> Result<Command<'a>, AllocError>
     ensures { IfOk result (λ c. app_of c ≡ spec.drill_app) }
@@ -210,6 +218,7 @@ pub(crate) fn app_for<'a>(alloc: Global, word: Word) -> Result<Command<'a>, Allo
         Word::Isolate => isolate(alloc),
         Word::Reduce => reduce(alloc),
         Word::Races => races(alloc),
+        Word::Tiles => tiles(alloc),
         Word::Drill => drill(alloc),
     }
 }
@@ -229,6 +238,7 @@ pub(crate) fn word_in(first: &str) -> Option<Word>
         "isolate" => Some(Word::Isolate),
         "reduce" => Some(Word::Reduce),
         "races" => Some(Word::Races),
+        "tiles" => Some(Word::Tiles),
         "drill" => Some(Word::Drill),
         _ => None,
     }

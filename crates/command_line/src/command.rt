@@ -84,6 +84,10 @@ pub enum Command<'a> {
         program: &'a str,
         log: &'a str,
     },
+    /// To print the intervals of this log.
+    Tiles {
+        log: &'a str,
+    },
     /// To store the drill of so many workers, from 1 to 60, and to record and replay it.
     Drill {
         workers: u64,
@@ -152,6 +156,9 @@ fn command_with<'a>(word: Word, matches: &ArgMatches<'a>) -> Command<'a>
         },
         Word::Races => Command::Races {
             program: text_in(matches, "P"),
+            log: text_in(matches, "LOG"),
+        },
+        Word::Tiles => Command::Tiles {
             log: text_in(matches, "LOG"),
         },
         Word::Drill => Command::Drill {

@@ -229,6 +229,16 @@ const ROWS: &[Row] = &[
         numbers: [0, 0, 0, 0],
     },
     Row {
+        words: &["tiles", "L"],
+        is_command: true,
+        numbers: [0, 0, 0, 0],
+    },
+    Row {
+        words: &["tiles", "P", "L"],
+        is_command: false,
+        numbers: [0, 0, 0, 0],
+    },
+    Row {
         words: &["drill", "8", "D"],
         is_command: true,
         numbers: [8, 0, 0, 0],
@@ -266,8 +276,11 @@ fn numbers_of(command: Command<'_>) -> [u64; 4] {
         } => [tests, workers, events, 0],
         Command::Reduce { tests, events, .. } => [tests, events, 0, 0],
         Command::Drill { workers, .. } => [workers, 0, 0, 0],
-        Command::Check { .. } | Command::Derive { .. } | Command::Races { .. } | Command::Unknown =>
-            [0, 0, 0, 0],
+        Command::Check { .. }
+        | Command::Derive { .. }
+        | Command::Races { .. }
+        | Command::Tiles { .. }
+        | Command::Unknown => [0, 0, 0, 0],
     }
 }
 

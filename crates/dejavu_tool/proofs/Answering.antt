@@ -1,6 +1,6 @@
 -- What a command says, put to the sink.
 use Rattle.std.proofs.Common.{◌≡◌, ℕ, Global, List, Vec, ◌++◌, ap, sym, subst, ◌∙◌, IsTrue, inr, ⊎_elim}
-use Rattle.command_line.specs.Requests.{Request, Check, Record, Replay, Show, Derive, Run, Seek, Isolate, Reduce, Races, Drill, Unknown}
+use Rattle.command_line.specs.Requests.{Request, Check, Record, Replay, Show, Derive, Run, Seek, Isolate, Reduce, Races, Tiles, Drill, Unknown}
 use Rattle.dejavu_tool.specs.declared.halt.Halt.{Halt}
 use Rattle.dejavu_tool.specs.declared.halt.Halt.TheVariants as halt
 use Rattle.dejavu_tool.specs.declared.status.Status.{Status}
@@ -10,7 +10,7 @@ use Rattle.schedule_log.specs.Logs.{PlainLog}
 use Rattle.dejavu_tool.specs.Answers.{Answers, AtLog, AtSchedule, Checks, Does, DrillStops, StopsAfterLog, StopsAfterProgram, StopsAfterSchedule, StopsAfterSchedules, Stops, Tells, Records, Replays, UsageStops}
 use Rattle.dejavu_tool.specs.Calls.{FolderCall, SinkCall, Puts}
 use Rattle.dejavu_tool.specs.Files.{FileStops, LogStops, ProgramStops, ScheduleStops}
-use Rattle.dejavu_tool.specs.Headline.{CheckHolds, DeriveHolds, DrillHolds, IsolationHolds, RacesHold, ReduceHolds, SeekHolds, RecordingHolds, ReplayHolds, RunHolds, ShowHolds, IsFinishedCheck, IsFinishedRecording, IsFinishedReplay}
+use Rattle.dejavu_tool.specs.Headline.{CheckHolds, DeriveHolds, DrillHolds, IsolationHolds, RacesHold, ReduceHolds, SeekHolds, TilesHold, RecordingHolds, ReplayHolds, RunHolds, ShowHolds, IsFinishedCheck, IsFinishedRecording, IsFinishedReplay}
 use Rattle.dejavu_tool.specs.Runs.{DeriveStops, IsolateStops, ReduceStops, RunStops, SeekStops, StateStops}
 use Rattle.dejavu_tool.specs.Stages.{Halts, PutsUnlessFault}
 
@@ -104,6 +104,7 @@ no_stop (Reduce program fail schedule tests events) c answer text quiet h =
 no_stop (Races program log) c answer text quiet h =
     ⊎_elim (program_no c program answer text quiet)
     (λ b. ⊎_elim (λ (a : AtLog c program log answer text). log_no c log answer text quiet a.stop) (λ (a : StopsAfterLog c program log (λ p l. RunStops p l answer text)). run_no a.of_program a.of_log answer text quiet a.stop) b) h.1
+no_stop (Tiles log) c answer text quiet h = log_no c log answer text quiet h.1
 no_stop Unknown c answer text quiet h = usage_no c answer text quiet h
 
 -- ---- what is put
@@ -253,3 +254,8 @@ pub races_hold : (asked : Request) (c : FolderCall) (s : SinkCall) (answer : Sta
 races_hold (Races program log) c s answer a =
     λ e told. let so = subst (λ (x : Status). Answers (Races program log) c s x) e a in record { printed = so.text; done = so.tells; puts = so.printed told }
 races_hold _ c s answer a = tt
+
+pub tiles_hold : (asked : Request) (c : FolderCall) (s : SinkCall) (answer : Status) → Answers asked c s answer → TilesHold asked c s answer
+tiles_hold (Tiles log) c s answer a =
+    λ e told. let so = subst (λ (x : Status). Answers (Tiles log) c s x) e a in record { printed = so.text; done = so.tells; puts = so.printed told }
+tiles_hold _ c s answer a = tt

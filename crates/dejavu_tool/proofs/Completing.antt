@@ -17,7 +17,7 @@ use Rattle.switch_schedule.specs.Texts.{SpellsSchedule}
 use Rattle.switch_schedule.proofs.First.{one-schedule, spelled-faultless}
 use Rattle.program_reducer.specs.Reductions as reduction
 use Rattle.program_isolator.specs.Isolations.{NeedsMore, tests_between}
-use Rattle.command_line.specs.Requests.{Request, Check, Record, Replay, Show, Derive, Run, Seek, Isolate, Reduce, Races, Drill, Unknown}
+use Rattle.command_line.specs.Requests.{Request, Check, Record, Replay, Show, Derive, Run, Seek, Isolate, Reduce, Races, Tiles, Drill, Unknown}
 use Rattle.drill_program.specs.Texts.{drill_text}
 use Rattle.dejavu_tool.specs.declared.status.Status.{Status}
 use Rattle.dejavu_tool.specs.declared.status.Status.TheVariants as status
@@ -265,6 +265,7 @@ stops_never (Reduce program fail schedule tests events) c s answer text can h =
 stops_never (Races program log) c s answer text can h =
     ⊎_elim (program_stops c s program answer text can.has can.free)
     (λ b. ⊎_elim (λ (a : AtLog c program log answer text). log_stops c s log answer text can.has.told can.has_log can.free a.stop) (run_stops c program log answer text can.has can.has_log can.runs) b) h.1
+stops_never (Tiles log) c s answer text can h = log_stops c s log answer text can.told can.has_log can.free h.1
 stops_never Unknown c s answer text can h = can
 
 store_never : (asked : Request) (c : FolderCall) (s : SinkCall) → CanDo asked c s → StoreIsLost asked c → ⊥
@@ -279,6 +280,7 @@ store_never (Seek program seed tries schedule events) c s can h = can.no_store h
 store_never (Isolate program pass fail tests workers events) c s can h = h
 store_never (Reduce program fail schedule tests events) c s can h = can.no_store h.stop.fault
 store_never (Races program log) c s can h = h
+store_never (Tiles log) c s can h = h
 store_never Unknown c s can h = can
 
 unhindered : (asked : Request) (c : FolderCall) (s : SinkCall) → CanDo asked c s → IsUnhindered c s
@@ -293,6 +295,7 @@ unhindered (Seek program seed tries schedule events) c s can = can.free
 unhindered (Isolate program pass fail tests workers events) c s can = can.free
 unhindered (Reduce program fail schedule tests events) c s can = can.free
 unhindered (Races program log) c s can = can.free
+unhindered (Tiles log) c s can = can.free
 unhindered Unknown c s can = absurd can
 
 pub is_complete : (asked : Request) (c : FolderCall) (s : SinkCall) (answer : Status) → Answers asked c s answer → IsComplete asked c s answer

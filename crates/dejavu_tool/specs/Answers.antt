@@ -3,7 +3,8 @@ use Rattle.std.specs.Prelude.{◌≡◌, ℕ, List, ◌++◌, IsTrue, codes, ◌
 use Rattle.tool_io.specs.Outside.{SameButOne}
 use Rattle.vm_model.specs.Program.{PlainProgram}
 use Rattle.schedule_log.specs.Logs.{PlainLog}
-use Rattle.command_line.specs.Requests.{Request, Check, Record, Replay, Show, Derive, Run, Seek, Isolate, Reduce, Races, Drill, Unknown}
+use Rattle.command_line.specs.Requests.{Request, Check, Record, Replay, Show, Derive, Run, Seek, Isolate, Reduce, Races, Tiles, Drill, Unknown}
+use Rattle.report_writer.specs.Tiles.{tiles_text}
 use Rattle.drill_program.specs.Texts.{drill_text}
 use Rattle.vm_model.specs.declared.limits.TheConstants.{MOST_EVENTS}
 use Rattle.dejavu_tool.specs.declared.status.Status.{Status}
@@ -107,6 +108,13 @@ pub record ReportsRaces (c : FolderCall) (program log printed : List ℕ) : Type
   pub races : TellsRaces of_program of_log printed
   pub untouched : IsUntouched c
 
+-- no file changes, and the intervals of the log are printed
+pub record ListsTiles (c : FolderCall) (log printed : List ℕ) : Type 0 where
+  pub of_log : PlainLog
+  pub loads_log : LoadsLog c log of_log
+  pub prints : printed ≡ tiles_text of_log
+  pub untouched : IsUntouched c
+
 -- The text is that of a program. Its recording by the ring without switches is printed, after how many workers it has.
 pub record TellsDrill (text : List ℕ) (workers : ℕ) (printed : List ℕ) : Type 0 where
   pub of_program : PlainProgram
@@ -190,6 +198,7 @@ Does (Seek program seed tries schedule events) c printed = Seeks c program seed 
 Does (Isolate program pass fail tests workers events) c printed = Isolates c program pass fail tests events printed
 Does (Reduce program fail schedule tests events) c printed = Reduces c program fail schedule tests events printed
 Does (Races program log) c printed = ReportsRaces c program log printed
+Does (Tiles log) c printed = ListsTiles c log printed
 Does (Drill workers program) c printed = Drills c workers program printed
 Does Unknown c printed = ⊥
 
@@ -216,6 +225,7 @@ Stops (Reduce program fail schedule tests events) c status printed =
     ⊎ StopsAfterSchedule c program fail events (λ p failing. ReduceStops p events failing tests status printed)))
 Stops (Races program log) c status printed =
     IsUntouched c × (ProgramStops c program status printed ⊎ (AtLog c program log status printed ⊎ StopsAfterLog c program log (λ p l. RunStops p l status printed)))
+Stops (Tiles log) c status printed = IsUntouched c × LogStops c log status printed
 Stops (Drill workers program) c status printed = DrillStops c workers program status printed
 Stops Unknown c status printed = UsageStops c status printed
 

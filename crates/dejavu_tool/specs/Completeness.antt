@@ -13,7 +13,7 @@ use Rattle.switch_schedule.specs.Searches.{ends_in_fault, try_times}
 use Rattle.switch_schedule.specs.Texts.{SpellsSchedule}
 use Rattle.program_reducer.specs.Reductions.{tests_on}
 use Rattle.program_isolator.specs.Isolations.{EndsSo, tests_between}
-use Rattle.command_line.specs.Requests.{Request, Check, Record, Replay, Show, Derive, Run, Seek, Isolate, Reduce, Races, Drill, Unknown}
+use Rattle.command_line.specs.Requests.{Request, Check, Record, Replay, Show, Derive, Run, Seek, Isolate, Reduce, Races, Tiles, Drill, Unknown}
 use Rattle.drill_program.specs.Texts.{drill_text}
 use Rattle.dejavu_tool.specs.declared.status.Status.{Status}
 use Rattle.dejavu_tool.specs.declared.status.Status.TheVariants as status
@@ -130,6 +130,12 @@ pub record CanReduce (c : FolderCall) (s : SinkCall) (program fail : List ℕ) (
   pub free : IsUnhindered c s
   pub no_store : StoreFails c → ⊥
 
+-- a log is under this name
+pub record CanTile (c : FolderCall) (s : SinkCall) (log : List ℕ) : Type 0 where
+  pub told : IsTrue c.told
+  pub has_log : HasLog c log
+  pub free : IsUnhindered c s
+
 -- the drill's text is that of a program
 pub record CanDrill (c : FolderCall) (s : SinkCall) (workers : ℕ) : Type 0 where
   pub of_program : PlainProgram
@@ -149,6 +155,7 @@ CanDo (Seek program seed tries schedule events) c s = CanSeek c s program seed t
 CanDo (Isolate program pass fail tests workers events) c s = CanIsolate c s program pass fail tests events
 CanDo (Reduce program fail schedule tests events) c s = CanReduce c s program fail tests events
 CanDo (Races program log) c s = CanReplay c s program log
+CanDo (Tiles log) c s = CanTile c s log
 CanDo (Drill workers program) c s = CanDrill c s workers
 CanDo Unknown c s = ⊥
 

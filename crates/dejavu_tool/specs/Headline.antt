@@ -6,7 +6,7 @@ use Rattle.vm_model.specs.Ends.{kind_of_end}
 use Rattle.vm_model.specs.Program.{PlainProgram}
 use Rattle.machine_model.specs.Machine.{MachineState, end_of, run}
 use Rattle.machine_model.specs.Ring.{schedule_threads}
-use Rattle.schedule_log.specs.Intervals.{Tiles}
+use Rattle.schedule_log.specs.Intervals.{Tiles as AreTiles}
 use Rattle.schedule_log.specs.Logs.{PlainLog, events, expansion}
 use Rattle.schedule_log.specs.Spelling.{Spells}
 use Rattle.report_writer.specs.Texts.{run_text}
@@ -15,8 +15,8 @@ use Rattle.dejavu_tool.specs.declared.status.Status.TheVariants as status
 use Rattle.dejavu_tool.specs.Accepting.{IsAccepted}
 use Rattle.dejavu_tool.specs.Checking.{check_text}
 use Rattle.dejavu_tool.specs.Calls.{FolderCall, SinkCall}
-use Rattle.command_line.specs.Requests.{Request, Check, Record, Replay, Show, Derive, Run, Seek, Isolate, Reduce, Races, Drill}
-use Rattle.dejavu_tool.specs.Answers.{Derives, Drills, Isolates, Reduces, ReportsRaces, Runs, Seeks, Shows}
+use Rattle.command_line.specs.Requests.{Request, Check, Record, Replay, Show, Derive, Run, Seek, Isolate, Reduce, Races, Tiles, Drill}
+use Rattle.dejavu_tool.specs.Answers.{Derives, Drills, Isolates, ListsTiles, Reduces, ReportsRaces, Runs, Seeks, Shows}
 
 -- The bytes under LOG spell one log. It tiles the run's events, and its threads lead the accepted program of the text under P
 -- to a machine with an end of the log's kind. What is printed is that run: its numbers of events and intervals, its end and
@@ -30,7 +30,7 @@ pub record IsRunOfFiles (before logs : List ℕ → Option (List ℕ)) (program 
   pub kept : logs log ≡ Some bytes
   pub of_log : PlainLog
   pub spelled : Spells of_log bytes
-  pub tiled : Tiles (events of_log) of_log.intervals
+  pub tiled : AreTiles (events of_log) of_log.intervals
   pub machine : MachineState
   pub runs : run of_program (expansion of_log) ≡ Some machine
   pub end : End
@@ -113,6 +113,11 @@ ReduceHolds _ c s answer = Unit {0}
 abbrev pub RacesHold : Request → FolderCall → SinkCall → Status → Type 0
 RacesHold (Races program log) c s answer = answer ≡ status.Ok → IsTrue s.told → Finishes s (ReportsRaces c program log)
 RacesHold _ c s answer = Unit {0}
+
+-- A finished list of a log's intervals.
+abbrev pub TilesHold : Request → FolderCall → SinkCall → Status → Type 0
+TilesHold (Tiles log) c s answer = answer ≡ status.Ok → IsTrue s.told → Finishes s (ListsTiles c log)
+TilesHold _ c s answer = Unit {0}
 
 abbrev pub DrillHolds : Request → FolderCall → SinkCall → Status → Type 0
 DrillHolds (Drill workers program) c s answer = answer ≡ status.Ok → IsTrue s.told → Finishes s (Drills c workers program)

@@ -19,6 +19,7 @@ mod seeking;
 mod showing;
 mod status;
 mod storing;
+mod tiling;
 mod top;
 
 pub use programs::{ProgramFault, accept, linked_program};

@@ -4,7 +4,7 @@ ghost use Rattle.command_line.specs.Requests.{request_of};
 ghost use Rattle.dejavu_tool.specs.Answers.{Answers, Does, on_one_lane};
 ghost use Rattle.dejavu_tool.specs.Calls.{folder_call, sink_call};
 ghost use Rattle.dejavu_tool.specs.Completeness.{IsComplete};
-ghost use Rattle.dejavu_tool.specs.Headline.{CheckHolds, DeriveHolds, DrillHolds, IsolationHolds, RacesHold, RecordingHolds, ReduceHolds, ReplayHolds, RunHolds, SeekHolds, ShowHolds};
+ghost use Rattle.dejavu_tool.specs.Headline.{CheckHolds, DeriveHolds, DrillHolds, IsolationHolds, RacesHold, RecordingHolds, ReduceHolds, ReplayHolds, RunHolds, SeekHolds, ShowHolds, TilesHold};
 ghost use Rattle.dejavu_tool.specs.Stages.{Halts, HaltsBy, PutsUnlessFault, UsageTold};
 
 use crate::checking::check_file;
@@ -21,6 +21,7 @@ use crate::running::run_file;
 use crate::seeking::seek_file;
 use crate::showing::show_file;
 use crate::status::Status;
+use crate::tiling::tiles_file;
 use command_line::{Command, command_in};
 use gate_core::Meeting;
 use std::alloc::Global;
@@ -100,6 +101,7 @@ fn done<H: Threads + Sync, F: Folder>(
             events,
         } => reduce_file(rt, alloc, program, fail, schedule, tests, events, folder),
         Command::Races { program, log } => races_file(alloc, program, log, folder),
+        Command::Tiles { log } => tiles_file(alloc, log, folder),
         Command::Drill { workers, program } => drill_file(alloc, workers as u32, program, folder),
         Command::Unknown => unknown(alloc),
     }
@@ -248,6 +250,8 @@ pub fn dejavu<H: Threads + Wait + Sync, F: Folder, O: Sink, M: Meeting>(
     ensures reduction { ReduceHolds (request_of (map string_bytes words.now)) (folder_call F.is_told F.file F.load_faults F.store_faults folder.old folder.new) (sink_call O.is_told O.taken O.faults out.old out.new) result }
     // A finished report of races.
     ensures races { RacesHold (request_of (map string_bytes words.now)) (folder_call F.is_told F.file F.load_faults F.store_faults folder.old folder.new) (sink_call O.is_told O.taken O.faults out.old out.new) result }
+    // A finished list of intervals.
+    ensures tiles { TilesHold (request_of (map string_bytes words.now)) (folder_call F.is_told F.file F.load_faults F.store_faults folder.old folder.new) (sink_call O.is_told O.taken O.faults out.old out.new) result }
     // A finished drill.
     ensures drill { DrillHolds (request_of (map string_bytes words.now)) (folder_call F.is_told F.file F.load_faults F.store_faults folder.old folder.new) (sink_call O.is_told O.taken O.faults out.old out.new) result }
     // When each status comes, and what it prints and leaves.

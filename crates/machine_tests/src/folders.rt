@@ -72,3 +72,18 @@ fn puts_are_taken(rt: HostRuntime) -> Result<(), Fail> {
     assert!(rt; sink.taken() == b"abcdgh".as_slice());
     Ok(())
 }
+
+#[test]
+fn short_puts_go_on(rt: HostRuntime) -> Result<(), Fail> {
+    let alloc = rt.alloc();
+    let mut sink = MemorySink::short(alloc, 3, Vec::new(alloc))?;
+    assert!(rt; put_all(&mut sink, b"0123456789") == Ok(()));
+    assert!(rt; sink.taken() == b"0123456789".as_slice());
+    let mut counted = MemorySink::short(alloc, 3, Vec::from_slice(alloc, &[4])?)?;
+    assert!(rt; put_all(&mut counted, b"0123456789") == Ok(()));
+    assert!(rt; put_all(&mut counted, b"a") == Err(SinkFault));
+    let mut failing = MemorySink::short(alloc, 3, Vec::from_slice(alloc, &[2])?)?;
+    assert!(rt; put_all(&mut failing, b"0123456789") == Err(SinkFault));
+    assert!(rt; failing.taken() == b"012345".as_slice());
+    Ok(())
+}

@@ -22,10 +22,11 @@ pub record FolderValue : Type 0 where
   pub load_faults : ℕ
   pub store_faults : ℕ
 
--- the bytes taken so far, the room for more, and the puts that are to fail
+-- the bytes taken so far, the room for more, the most that a put takes, and the puts that are to fail
 pub record SinkValue : Type 0 where
   pub taken : List ℕ
   pub room : ℕ
+  pub most : ℕ
   pub failing : List ℕ
   pub calls : ℕ
   pub faults : ℕ

@@ -69,6 +69,11 @@ abbrev pub PutTakes : List ℕ → Put → Type 0
 PutTakes piece (put.Taken n) = (0 < length piece → 0 < n) × (n ≤ length piece)
 PutTakes piece put.Failed = Unit {0}
 
+-- a put that doesn't fail takes so many bytes
+abbrev pub PutCounts : ℕ → Put → Type 0
+PutCounts count (put.Taken n) = n ≡ count
+PutCounts count put.Failed = Unit {0}
+
 -- a put fails only where the count of failed puts rose
 abbrev pub PutFails : ℕ → ℕ → Put → Type 0
 PutFails old new (put.Taken n) = Unit {0}

@@ -1,7 +1,7 @@
-ghost use Rattle.std.specs.Prelude.{◌≡◌, ◌+◌, ◌<◌, ◌≤◌, ℕ, List, [], Contains, length, true, false, IfOk, OnOk, OnErr, IfSome, IfNone, None};
+ghost use Rattle.std.specs.Prelude.{◌≡◌, ◌+◌, ◌-◌, ◌^◌, ◌<◌, ◌≤◌, ℕ, List, [], Contains, length, min, true, false, IfOk, OnOk, OnErr, IfSome, IfNone, None};
 ghost use Rattle.std.specs.Option.{option_copied};
 ghost use Rattle.tool_io.specs.Memory.{AreDistinct, IsPlaceOf, file_in, raised_count};
-ghost use Rattle.tool_io.specs.Outside.{HasLoadFailed, HasPutFailed, HasStoreFailed, LoadFails, LoadGives, PutFails, PutGives, PutTakes, SetsFile, StoreFails, StoreGives};
+ghost use Rattle.tool_io.specs.Outside.{HasLoadFailed, HasPutFailed, HasStoreFailed, LoadFails, LoadGives, PutCounts, PutFails, PutGives, PutTakes, SetsFile, StoreFails, StoreGives};
 
 use crate::folder::{Folder, Load, Store};
 use crate::sink::{Put, Sink};
@@ -214,31 +214,44 @@ impl Folder for MemoryFolder {
 }
 
 /// A sink in memory. It tells the bytes taken. Its puts are counted from 0, and those in its list of failing puts fail; one
-/// that would pass 32 MiB in all fails too.
+/// that would pass 32 MiB in all fails too. A short one takes the first bytes of a piece alone, up to a number that it has.
 #[derive(Debug, Drop)]
 pub struct MemorySink {
     taken: Vec<u8>,
+    most: usize,
     failing: Vec<u64>,
     calls: u64,
     faults: u64,
 }
 
 impl Model for MemorySink {
-    ghost use Rattle.std.specs.Prelude.{vec_len, vec_capacity, ◌-◌};
+    ghost use Rattle.std.specs.Prelude.{vec_len, vec_capacity, ◌-◌, ◌≤◌};
     ghost use Rattle.tool_io.specs.Memory.{SinkValue};
 
     ghost Value = { SinkValue };
 
-    ghost view = { λ s. record { taken = s.taken.items; room = vec_capacity s.taken - vec_len s.taken; failing = s.failing.items; calls = s.calls; faults = s.faults } };
+    ghost view = { λ s. record { taken = s.taken.items; room = vec_capacity s.taken - vec_len s.taken; most = s.most; failing = s.failing.items; calls = s.calls; faults = s.faults } };
+
+    ghost invariant = { λ s. 1 ≤ s.most };
 }
 
 impl MemorySink {
-    /// A sink that took nothing yet, with room for 32 MiB, and in which these puts fail.
+    /// A sink that took nothing yet, with room for 32 MiB, and in which these puts fail. The others take the whole piece.
     pub fn new(alloc: Global, failing: Vec<u64>) -> Result<MemorySink, NoMemory>
-        ensures { IfOk result (λ s. s ≡ record { taken = []; room = 33554432; failing = failing.items; calls = 0; faults = 0 }) }
+        ensures { IfOk result (λ s. s ≡ record { taken = []; room = 33554432; most = 2 ^ 64 - 1; failing = failing.items; calls = 0; faults = 0 }) }
+    {
+        MemorySink::short(alloc, usize::MAX, failing)
+    }
+
+    /// A sink as `new` makes it, of which a put takes at most this many bytes. It is for callers that must go on after a put
+    /// that took less than it was given.
+    pub fn short(alloc: Global, most: usize, failing: Vec<u64>) -> Result<MemorySink, NoMemory>
+        requires { 1 ≤ most }
+        ensures { IfOk result (λ s. s ≡ record { taken = []; room = 33554432; most = most; failing = failing.items; calls = 0; faults = 0 }) }
     {
         Ok(MemorySink {
             taken: Vec::with_capacity(alloc, MOST_OUTPUT)?,
+            most,
             failing,
             calls: 0,
             faults: 0,
@@ -275,15 +288,21 @@ impl Sink for MemorySink {
         ensures room { length self.old.taken + self.old.room ≤ length self.new.taken + self.new.room }
         ensures never { self.old.failing ≡ [] → HasPutFailed result → self.old.room < length piece.now }
         ensures failing { self.new.failing ≡ self.old.failing }
+
+        // It takes as much of the piece as it may, and room for that is enough.
+        ensures most { self.new.most ≡ self.old.most }
+        ensures count { PutCounts (min self.old.most (length piece.now)) result }
+        ensures short { self.old.failing ≡ [] → HasPutFailed result → self.old.room < min self.old.most (length piece.now) }
     {
+        let part = &piece[..self.most.min(piece.len())];
         let fails = is_failing(&self.failing, self.calls);
         self.calls = raised(self.calls);
-        if fails || self.taken.capacity() - self.taken.len() < piece.len() {
+        if fails || self.taken.capacity() - self.taken.len() < part.len() {
             self.faults = raised(self.faults);
             return Put::Failed;
         }
-        match self.taken.extend_from_slice(piece) {
-            Ok(()) => Put::Taken(piece.len() as u64),
+        match self.taken.extend_from_slice(part) {
+            Ok(()) => Put::Taken(part.len() as u64),
             Err(_) => unreachable!(),
         }
     }

@@ -341,7 +341,7 @@ const WORDS: &[Row] = &[
         stored: None,
     },
     Row {
-        words: &["tiles", "L"],
+        words: &["upgrade", "L"],
         files: &[File {
             name: "P",
             bytes: SUM,
@@ -1320,6 +1320,42 @@ const REDUCTIONS: &[Row] = &[
     },
 ];
 
+const TILES: &[Row] = &[
+    Row {
+        words: &["tiles", "L"],
+        files: &[File {
+            name: "L",
+            bytes: WRITERS_LOG,
+        }],
+        folder: &[],
+        sink: &[],
+        status: Status::Ok,
+        text: b"budget 1048576\nevents 14\nend done\ninterval 0 0 3\ninterval 1 4 6\ninterval 2 7 9\ninterval 0 10 13\n",
+        stored: None,
+    },
+    Row {
+        words: &["tiles", "L"],
+        files: &[File {
+            name: "L",
+            bytes: b"DJ",
+        }],
+        folder: &[],
+        sink: &[],
+        status: Status::LogRefused,
+        text: b"log refused: 3 at 2\n",
+        stored: None,
+    },
+    Row {
+        words: &["tiles", "L"],
+        files: &[],
+        folder: &[],
+        sink: &[],
+        status: Status::Absent,
+        text: b"absent L\n",
+        stored: None,
+    },
+];
+
 const ISOLATIONS: &[Row] = &[
     Row {
         words: &["isolate", "P", "A", "B"],
@@ -1742,5 +1778,49 @@ fn reductions(rt: HostRuntime) -> Result<(), Fail> {
     for row in REDUCTIONS {
         assert!(rt; is_right(&rt, rt.alloc(), row)?, "{:?}", row.words);
     }
+    Ok(())
+}
+
+#[test]
+fn tiles(rt: HostRuntime) -> Result<(), Fail> {
+    for row in TILES {
+        assert!(rt; is_right(&rt, rt.alloc(), row)?, "{:?}", row.words);
+    }
+    Ok(())
+}
+
+const BYTEWISE: Row = Row {
+    words: &["record", "P", "L"],
+    files: &[File {
+        name: "P",
+        bytes: SUM,
+    }],
+    folder: &[],
+    sink: &[],
+    status: Status::Ok,
+    text: SUM_TEXT,
+    stored: None,
+};
+
+/// What `record` of the sum prints to a sink that takes one byte a put, where these puts fail, and its status.
+fn printed_bytewise<H: Threads + Wait + Sync>(
+    rt: &H,
+    alloc: Global,
+    failing: &[u64],
+) -> Result<(Status, MemorySink), Fail> {
+    let words = words_of(alloc, &BYTEWISE)?;
+    let mut folder = folder_of(alloc, &BYTEWISE)?;
+    let mut sink = MemorySink::short(alloc, 1, Vec::from_slice(alloc, failing)?)?;
+    let status = dejavu(rt, alloc, &words, &mut folder, &mut sink, &NoMeeting);
+    Ok((status, sink))
+}
+
+#[test]
+fn bytes_are_put_one_by_one(rt: HostRuntime) -> Result<(), Fail> {
+    let (status, sink) = printed_bytewise(&rt, rt.alloc(), &[])?;
+    assert!(rt; status == Status::Ok && sink.taken() == SUM_TEXT);
+    let (status, sink) = printed_bytewise(&rt, rt.alloc(), &[42])?;
+    assert!(rt; status == Status::WriteFault && sink.taken().len() == 42);
+    assert!(rt; SUM_TEXT.starts_with(sink.taken()));
     Ok(())
 }

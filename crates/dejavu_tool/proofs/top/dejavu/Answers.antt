@@ -1,5 +1,5 @@
 -- The headline, the other commands and completeness follow from what each status says.
-use Rattle.dejavu_tool.proofs.Answering.{check_holds, derive_holds, drill_holds, isolation_holds, races_hold, recording_holds, reduce_holds, seek_holds, replay_holds, run_holds, show_holds}
+use Rattle.dejavu_tool.proofs.Answering.{check_holds, derive_holds, drill_holds, isolation_holds, races_hold, recording_holds, reduce_holds, seek_holds, replay_holds, run_holds, show_holds, tiles_hold}
 use Rattle.dejavu_tool.proofs.Completing.{is_complete}
 use Rattle.dejavu_tool.proofs.top.dejavu.Goals as goal
 
@@ -35,6 +35,9 @@ returns-clause-reduction g c = reduce_holds _ _ _ _ c.answered_by_lanes.ensures
 
 pub returns-clause-races : goal.returns-clause-races
 returns-clause-races g c = races_hold _ _ _ _ c.answered_by_lanes.ensures
+
+pub returns-clause-tiles : goal.returns-clause-tiles
+returns-clause-tiles g c = tiles_hold _ _ _ _ c.answered_by_lanes.ensures
 
 pub returns-clause-complete : goal.returns-clause-complete
 returns-clause-complete g c = is_complete _ _ _ _ c.answered_by_lanes.ensures
