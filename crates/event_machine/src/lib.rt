@@ -4,4 +4,4 @@
 mod machine;
 mod threads;
 
-pub use machine::{Machine, TurnFault};
+pub use machine::{Machine, Next, TurnFault};

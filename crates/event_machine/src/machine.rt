@@ -9,6 +9,7 @@ ghost use Rattle.machine_model.specs.Ring.{Cuts, moved_on, next_in_ring, pick, r
 ghost use Rattle.machine_model.specs.Declarations.{declarations_of};
 ghost use Rattle.projection_laws.specs.Projections.{AreProjections};
 ghost use Rattle.event_machine.specs.MachineView.{AllReady, state_of, machine_from, may_do, pending_at, IsHistory, IsWhole};
+ghost use Rattle.event_machine.specs.Turns.{AddsAtMostOne, IsNext};
 
 use crate::threads::{copy_all, first_thread, go_on, operation_at, start};
 use local_machine::Local;
@@ -45,6 +46,15 @@ pub enum TurnFault {
     NoMemory,
 }
 
+/// What comes next of a run.
+#[derive(Clone, Copy, Debug, PartialEq, Eq)]
+pub enum Next {
+    /// The run has ended so.
+    Ends(End),
+    /// This thread makes the next event.
+    Turns(u32),
+}
+
 /// Makes the next event, of a thread that asks for this operation.
 fn event_of(
     world: &mut World,
@@ -64,6 +74,7 @@ fn event_of(
     ensures entry { IfOk result (λ e. (world.new.history ≡ world.old.history ++ e ∷ []) × (e.thread ≡ thread)) }
     ensures history { IsHistory plain.now world.new.history }
     ensures budget { world.new.budget ≡ world.old.budget }
+    ensures memory { OnErr result (AddsAtMostOne world.old.history thread world.new.history) }
 {
     let Ok(reply) = world.apply(alloc, thread, op) else {
         return Err(NoMemory);
@@ -108,7 +119,7 @@ fn first_of(fault: Option<Fault>, done: bool, stuck: bool, spent: bool) -> Optio
 
 impl Machine {
     ghost use Rattle.event_machine.specs.MachineView.{IsMachineOf, machine_of, may_turn, shown_end, shown_pick};
-    ghost use Rattle.event_machine.specs.Turns.{Refuses, Turned};
+    ghost use Rattle.event_machine.specs.Turns.{BreaksOff, Refuses, Turned};
 
     /// The machine at the start of a program, for so many events, from 1 to `MOST_EVENTS`.
     pub fn new(alloc: Global, plain: &Plain, events: u64) -> Result<Machine, NoMemory>
@@ -186,12 +197,26 @@ impl Machine {
         operation_at(&self.locals, thread)
     }
 
+    /// The operation that the thread asks for, where it is enabled.
+    fn enabled_operation(&self, thread: u32) -> Option<Op>
+        ensures asks { IfSome result (λ op. pending_at self.now.locals thread ≡ Some op) }
+        ensures enabled { IfSome result (λ op. may_do self.now.world thread (Some op) ≡ true) }
+        ensures none { IfNone result (may_turn self.now thread ≡ false) }
+    {
+        let op = self.operation(thread)?;
+        if self.world().enabled(thread, &op) {
+            Some(op)
+        } else {
+            None
+        }
+    }
+
     /// Whether the operation that the thread asks for is enabled.
     fn may_turn(&self, thread: u32) -> bool
         ensures { result ≡ may_turn self.now thread }
     {
-        match self.operation(thread) {
-            Some(op) => self.world().enabled(thread, &op),
+        match self.enabled_operation(thread) {
+            Some(_) => true,
             None => false,
         }
     }
@@ -282,6 +307,33 @@ impl Machine {
         self.end_now()
     }
 
+    /// How the machine ended, where this thread is enabled: then it isn't stuck, and not all threads have ended.
+    fn end_beside_enabled(&self, thread: u32) -> Option<End>
+        requires { may_turn self.now thread ≡ true }
+        ensures shown { result ≡ shown_end self.now }
+        ensures open { IfNone result (self.now.world.shared.fault ≡ None) }
+        ensures left { IfNone result (length self.now.world.history < self.now.world.budget) }
+    {
+        first_of(self.world().fault(), false, false, self.is_spent())
+    }
+
+    /// How the machine ended, where no thread is enabled.
+    fn end_without_enabled(&self) -> End
+        requires { list_any (may_turn self.now) (range_with_len 0 (length self.now.world.shared.rows)) ≡ false }
+        ensures { shown_end self.now ≡ Some result }
+    {
+        match self.world().fault() {
+            Some(fault) => End::Fault(fault),
+            None => {
+                if self.world().all_ended() {
+                    End::Done
+                } else {
+                    End::Stuck
+                }
+            }
+        }
+    }
+
     /// The number from which on the threads stand above this one.
     fn above(&self, thread: u32) -> u32
         ensures { Cuts thread (length self.now.world.shared.rows) result }
@@ -351,11 +403,43 @@ impl Machine {
         self.pick_at(self.moved_on(from, places))
     }
 
-    /// Makes the next event, of this thread, and gives it. `Over`, `NotLive` and `NotEnabled` are tested in this order, and
+    /// What comes next, so many places on from a thread: the end, if the machine has one, else the thread that `pick` gives. It
+    /// takes no memory.
+    pub fn next(&self, from: u32, places: u32) -> Next
+        requires { self.now.is_broken ≡ false }
+        ensures shown { IsNext (shown_end self.now) (shown_pick self.now from places) result }
+        ensures meaning { (p : PlainProgram) → IsMachineOf p self.now → IsNext (end_of p (machine_of self.now) self.now.world.budget) (pick p (machine_of self.now) from places) result }
+    {
+        let Some(thread) = self.pick(from, places) else {
+            return Next::Ends(self.end_without_enabled());
+        };
+        match self.end_beside_enabled(thread) {
+            Some(end) => Next::Ends(end),
+            None => Next::Turns(thread),
+        }
+    }
+
+    /// Why a thread that isn't enabled makes no event.
+    fn refusal(&self, thread: u32) -> TurnFault
+        requires whole { self.now.is_broken ≡ false }
+        requires blocked { may_turn self.now thread ≡ false }
+        ensures { (p : PlainProgram) → IsMachineOf p self.now → Refuses p self.now thread result self.now }
+    {
+        if self.end_now().is_some() {
+            return TurnFault::Over;
+        }
+        if !self.is_live(thread) {
+            return TurnFault::NotLive;
+        }
+        TurnFault::NotEnabled
+    }
+
+    /// Makes the next event, of this thread, and gives it. `Over`, `NotLive` and `NotEnabled` are told in this order, and
     /// leave the machine as it was. After `NoMemory` the history is still that of a run, and no further turn can be made.
     pub fn turn(&mut self, alloc: Global, plain: &Plain, thread: u32) -> Result<Entry, TurnFault>
         requires { IsMachineOf plain.now self.old }
         ensures ok { IfOk result (λ e. Turned plain.now self.old thread e self.new) }
+        ensures open { OnOk result (end_of plain.now (machine_of self.old) self.old.world.budget ≡ None) }
         ensures err { IfErr result (λ fault. Refuses plain.now self.old thread fault self.new) }
         ensures own { IsMachineOf plain.now self.new }
         ensures whole { OnOk result ((self.old.is_broken ≡ false) × (self.new.is_broken ≡ false)) }
@@ -363,15 +447,31 @@ impl Machine {
         if self.is_broken() {
             return Err(TurnFault::NoMemory);
         }
-        if self.end_now().is_some() {
+        let Some(op) = self.enabled_operation(thread) else {
+            return Err(self.refusal(thread));
+        };
+        if self.end_beside_enabled(thread).is_some() {
             return Err(TurnFault::Over);
         }
-        if !self.is_live(thread) {
-            return Err(TurnFault::NotLive);
+        match self.event(alloc, plain, thread, op) {
+            Ok(entry) => Ok(entry),
+            Err(_) => Err(TurnFault::NoMemory),
         }
-        if !self.may_turn(thread) {
-            return Err(TurnFault::NotEnabled);
-        }
+    }
+
+    /// Makes the next event, of a thread that is enabled in a machine without an end, and gives it. `next` answers such a
+    /// thread. After `NoMemory` the history is still that of a run, and no further event can be made.
+    pub fn make(&mut self, alloc: Global, plain: &Plain, thread: u32) -> Result<Entry, NoMemory>
+        requires own { IsMachineOf plain.now self.old }
+        requires whole { self.old.is_broken ≡ false }
+        requires open { end_of plain.now (machine_of self.old) self.old.world.budget ≡ None }
+        requires enabled { is_enabled plain.now (machine_of self.old) thread ≡ true }
+        ensures ok { IfOk result (λ e. Turned plain.now self.old thread e self.new) }
+        ensures own { IsMachineOf plain.now self.new }
+        ensures whole { OnOk result (self.new.is_broken ≡ false) }
+        ensures memory { OnErr result (BreaksOff self.old thread self.new) }
+    {
+        let _within = self.world().clock();
         let Some(op) = self.operation(thread) else {
             unreachable!()
         };
@@ -385,25 +485,20 @@ impl Machine {
         plain: &Plain,
         thread: u32,
         op: Op,
-    ) -> Result<Entry, TurnFault>
+    ) -> Result<Entry, NoMemory>
         requires whole { IsWhole plain.now self.old.world self.old.locals }
         requires asks { pending_at self.old.locals thread ≡ Some op }
         requires enabled { IsTrue (may_do self.old.world thread (Some op)) }
         requires open { self.old.world.shared.fault ≡ None }
         requires left { length self.old.world.history < self.old.world.budget }
         ensures ok { IfOk result (λ e. Turned plain.now self.old thread e self.new) }
-        ensures err { IfErr result (λ fault. fault ≡ TurnFault.NoMemory) }
         ensures own { IsMachineOf plain.now self.new }
         ensures whole { OnOk result (self.new.is_broken ≡ false) }
-        ensures broken { OnErr result (self.new.is_broken ≡ true) }
+        ensures memory { OnErr result (BreaksOff self.old thread self.new) }
     {
         self.is_broken = true;
-        match event_of(&mut self.world, &mut self.locals, alloc, plain, thread, op) {
-            Ok(entry) => {
-                self.is_broken = false;
-                Ok(entry)
-            }
-            Err(_) => Err(TurnFault::NoMemory),
-        }
+        let entry = event_of(&mut self.world, &mut self.locals, alloc, plain, thread, op)?;
+        self.is_broken = false;
+        Ok(entry)
     }
 }

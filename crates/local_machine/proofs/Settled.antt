@@ -1,13 +1,16 @@
 -- The settled state, step by step.
-use Rattle.std.proofs.Common.{◌≡◌, ℕ, zero, suc, ◌+◌, ◌-◌, ◌<◌, ◌≤◌, List, ◌∷◌, Some, None, refl, sym, ◌∙◌, ap, subst, arith}
+use Rattle.std.proofs.Common.{◌≡◌, ◌≢◌, ℕ, zero, suc, ◌+◌, ◌-◌, ◌<◌, ◌≤◌, Bool, true, false, List, ◌∷◌, Some, None, refl, sym, ◌∙◌, ap, subst, arith}
 use Rattle.vm_model.specs.Program.{PlainProgram}
 use Rattle.machine_model.specs.Frames.{Frame, LocalState, Running, Plain}
 use Rattle.machine_model.specs.Effect.{action}
 use Rattle.machine_model.specs.LocalStep.{local_step, go_on, settled_within}
 use Rattle.local_machine.specs.declared.acted.Acted.{Acted}
-use Rattle.local_machine.specs.Acts.{acted_of}
+use Rattle.local_machine.specs.declared.acted.Acted.TheVariants as acted
+use Rattle.local_machine.specs.Acts.{acted_of, after}
+use Rattle.local_machine.specs.Further.{after_steps, one_step_more}
 use Rattle.local_machine.specs.LocalView.{one_more, steps_within}
-use Rattle.local_machine.specs.Steps.{Stepped, IsOnTheWay, IsSettled}
+use Rattle.local_machine.specs.Steps.{IsFollowed, IsOnTheWay, IsSettled, followed}
+use Rattle.local_machine.proofs.Moved.{frame-stays, no_goes, step_is}
 
 pub settled-zero : (p : PlainProgram) (n : ℕ) (l : LocalState) → n ≡ 0 → settled_within p n l ≡ l
 unfolding settled_within
@@ -39,6 +42,20 @@ unfolding steps_within
 count-stop p zero l e = refl
 count-stop p (suc n) l e = ap (λ o. one_more o (steps_within p n)) e
 
+after-none : (p : PlainProgram) (s : ℕ) (l : LocalState) → after_steps p (s - s) l ≡ Some l
+unfolding after_steps
+after-none p s l =
+    let none : s - s ≡ 0 = omega arith in
+    ap (λ k. after_steps p k l) none
+
+after-step : (p : PlainProgram) (n k : ℕ) (l m m' : LocalState) → k ≡ suc n → after_steps p n l ≡ Some m → local_step p m ≡ Some m' → after_steps p k l ≡ Some m'
+unfolding after_steps
+after-step p n k l m m' long e step = ap (λ i. after_steps p i l) long ∙ ap (one_step_more p) e ∙ step
+
+-- no step was made yet
+pub on_the_way_here : (p : PlainProgram) (l : LocalState) (s : ℕ) → IsOnTheWay p l s l s
+on_the_way_here p l s = record { state = refl; count = refl; more = omega arith; after = after-none p s l }
+
 -- one more local step
 pub on_the_way-step : (p : PlainProgram) (old now new : LocalState) (steps s : ℕ) → IsOnTheWay p old steps now s → s < 4096 → local_step p now ≡ Some new → IsOnTheWay p old steps new (s + 1)
 on_the_way-step p old now new steps s w h e =
@@ -46,6 +63,8 @@ on_the_way-step p old now new steps s w h e =
     record {
       state = sym (settled-step p s now new h e) ∙ w.state;
       count = omega (arith, counted, w.count);
+      more = omega (arith, w.more);
+      after = after-step p (s - steps) (s + 1 - steps) old now new (omega (arith, w.more)) w.after e;
     }
 
 -- there is no further step
@@ -72,16 +91,15 @@ settled-ticked p old f below steps s a w h q =
     }
 
 -- a step that isn't there leaves the frames
-pub settled-stays : (p : PlainProgram) (old : LocalState) (f g : Frame) (below below' : List Frame) (steps s : ℕ) (a : Acted) → IsOnTheWay p old steps (Running (f ∷ below) Plain) s → Stepped p f below (Some a) (g ∷ below') → IsSettled p old steps g below' s a
-settled-stays p old f g below below' steps s a w e =
-    let there = settled-stopped p old f below steps s a w e.0 e.2 in
-    let same = e.1 in
+pub settled-stays : (p : PlainProgram) (old : LocalState) (f g : Frame) (below below' : List Frame) (steps s : ℕ) (a : Acted) → IsOnTheWay p old steps (Running (f ∷ below) Plain) s → local_step p (Running (f ∷ below) Plain) ≡ None → g ∷ below' ≡ f ∷ below → a ≡ acted_of (action p f) → IsSettled p old steps g below' s a
+settled-stays p old f g below below' steps s a w none same q =
+    let there = settled-stopped p old f below steps s a w none q in
     let head : f ≡ g = cc in
     record {
-      state = ap (λ (fs : List Frame). Running fs Plain) e.1 ∙ there.state;
+      state = ap (λ (fs : List Frame). Running fs Plain) same ∙ there.state;
       count = there.count;
-      acted = e.2 ∙ ap (λ (h : Frame). acted_of (action p h)) head;
-      way = subst (λ (fs : List Frame). IsOnTheWay p old steps (Running fs Plain) s) (sym e.1) w;
+      acted = q ∙ ap (λ (h : Frame). acted_of (action p h)) head;
+      way = subst (λ (fs : List Frame). IsOnTheWay p old steps (Running fs Plain) s) (sym same) w;
     }
 
 -- the frame is as it was, and 4,096 steps were made
@@ -94,3 +112,26 @@ settled-looked p old f g below steps s a w h e q =
       acted = q ∙ ap (λ (x : Frame). acted_of (action p x)) (sym e);
       way = subst (λ (x : Frame). IsOnTheWay p old steps (Running (x ∷ below) Plain) s) (sym e) w;
     }
+
+-- ---- the instruction of the frame f did x, and left the frame g
+
+local_step-is : (p : PlainProgram) (h f g : Frame) (below : List Frame) (x : Acted) → f ≡ h → x ≡ acted_of (action p f) → g ≡ after (action p f) f → local_step p (Running (h ∷ below) Plain) ≡ followed p x g below
+local_step-is p h f g below x e q t = ap (λ (i : Frame). local_step p (Running (i ∷ below) Plain)) (sym e) ∙ step_is p (action p f) f g below x q t
+
+-- a step was made
+pub on_the_way-made : (p : PlainProgram) (old : LocalState) (h f g : Frame) (below frames : List Frame) (steps s : ℕ) (x : Acted) (made : Bool) → IsOnTheWay p old steps (Running (h ∷ below) Plain) s → s < 4096 → f ≡ h → x ≡ acted_of (action p f) → g ≡ after (action p f) f → made ≡ true → IsFollowed (followed p x g below) (g ∷ below) made frames → IsOnTheWay p old steps (Running frames Plain) (s + 1)
+on_the_way-made p old h f g below frames steps s x true w few e q t m step = on_the_way-step p old (Running (h ∷ below) Plain) (Running frames Plain) steps s w few (local_step-is p h f g below x e q t ∙ step)
+on_the_way-made p old h f g below frames steps s x false w few e q t m step = cc
+
+-- memory was missing for a call or a return
+pub on_the_way-stays : (p : PlainProgram) (old : LocalState) (h f g : Frame) (below frames : List Frame) (steps s : ℕ) (x : Acted) → IsOnTheWay p old steps (Running (h ∷ below) Plain) s → f ≡ h → x ≡ acted_of (action p f) → g ≡ after (action p f) f → x ≢ acted.Goes → frames ≡ g ∷ below → IsOnTheWay p old steps (Running frames Plain) s
+on_the_way-stays p old h f g below frames steps s x w e q t n same =
+    let kept : frames ≡ h ∷ below = same ∙ ap (λ (i : Frame). i ∷ below) (frame-stays (action p f) f g x q t n ∙ e) in
+    subst (λ (fs : List Frame). IsOnTheWay p old steps (Running fs Plain) s) (sym kept) w
+
+-- there is no step
+pub settled-unmade : (p : PlainProgram) (old : LocalState) (h f g k : Frame) (below below' : List Frame) (steps s : ℕ) (x : Acted) (made : Bool) → IsOnTheWay p old steps (Running (h ∷ below) Plain) s → f ≡ h → x ≡ acted_of (action p f) → g ≡ after (action p f) f → made ≡ false → IsFollowed (followed p x g below) (g ∷ below) made (k ∷ below') → IsSettled p old steps k below' s x
+settled-unmade p old h f g k below below' steps s x true w e q t m step = cc
+settled-unmade p old h f g k below below' steps s x false w e q t m step =
+    let kept = frame-stays (action p f) f g x q t (no_goes p g below x step.0) ∙ e in
+    settled-stays p old h k below below' steps s x w (local_step-is p h f g below x e q t ∙ step.0) (step.1 ∙ ap (λ (i : Frame). i ∷ below) kept) (q ∙ ap (λ (i : Frame). acted_of (action p i)) e)

@@ -1,5 +1,5 @@
 -- The fields of a thread by itself, and what they stand for.
-use Rattle.std.specs.Prelude.{ℕ, ◌+◌, ◌<◌, ◌≤◌, ◌^◌, List, [], ◌∷◌, map, reverse, length, Option, Some, None}
+use Rattle.std.specs.Prelude.{ℕ, ◌+◌, ◌<◌, ◌≤◌, ◌^◌, Bool, true, false, List, [], ◌∷◌, map, reverse, length}
 use Rattle.std.specs.List.{AllByRecursion}
 use Rattle.machine_model.specs.Frames as model
 use Rattle.local_machine.specs.declared.acted.Acted.{Acted}
@@ -55,6 +55,7 @@ Stands (acted.Asks o n) f = HasRoom f × (f.place < 2 ^ 31)
 Stands (acted.Fails kind) f = HasRoom f × (f.place < 2 ^ 31)
 Stands acted.Undefined f = Unit {0}
 
-abbrev pub StandsWhere : Option Acted → Frame → Type 0
-StandsWhere None f = Unit {0}
-StandsWhere (Some a) f = Stands a f
+-- the same, unless a step was made
+abbrev pub StandsUnless : Bool → Acted → Frame → Type 0
+StandsUnless true a f = Unit {0}
+StandsUnless false a f = Stands a f

@@ -3,6 +3,7 @@ pub mod Families
 pub mod Acts
 pub mod Completions
 pub mod LocalView
+pub mod Further
 pub mod Fields
 pub mod Returns
 pub mod Steps

@@ -1,23 +1,36 @@
 -- What the code's steps are, by the definitions.
-use Rattle.std.specs.Prelude.{◌≡◌, ℕ, ◌+◌, ◌-◌, List, ◌∷◌, Option, Some, None}
+use Rattle.std.specs.Prelude.{◌≡◌, ◌≤◌, ℕ, ◌+◌, ◌-◌, Bool, true, false, List, ◌∷◌, Option, Some, None}
 use Rattle.vm_model.specs.declared.limits.TheConstants.{MOST_LOCAL_STEPS}
 use Rattle.vm_model.specs.Program.{PlainProgram}
 use Rattle.machine_model.specs.Frames.{Frame, LocalState, Running, Plain}
 use Rattle.machine_model.specs.Effect.{action}
-use Rattle.machine_model.specs.LocalStep.{local_step, settled_within}
+use Rattle.machine_model.specs.LocalStep.{moved_back, moved_in, settled_within}
 use Rattle.local_machine.specs.declared.acted.Acted.{Acted}
+use Rattle.local_machine.specs.declared.acted.Acted.TheVariants as acted
 use Rattle.local_machine.specs.Acts.{acted_of}
+use Rattle.local_machine.specs.Further.{after_steps}
 use Rattle.local_machine.specs.LocalView.{steps_within}
 
--- a local step was made; or there is none, and this is what the instruction of the top frame does
-abbrev pub Stepped : PlainProgram → Frame → List Frame → Option Acted → List Frame → Type 0
-Stepped p f below None frames = local_step p (Running (f ∷ below) Plain) ≡ Some (Running frames Plain)
-Stepped p f below (Some a) frames = (local_step p (Running (f ∷ below) Plain) ≡ None) × (frames ≡ f ∷ below) × (a ≡ acted_of (action p f))
+-- the local step of an instruction that did this, and left the frame g on top; none where it makes none
+abbrev pub followed : PlainProgram → Acted → Frame → List Frame → Option LocalState
+followed p acted.Goes g below = Some (Running (g ∷ below) Plain)
+followed p (acted.Calls m l) g below = moved_in p m l g below
+followed p (acted.Gives given) g below = moved_back given g.lock below
+followed p (acted.Asks o n) g below = None
+followed p (acted.Fails kind) g below = None
+followed p acted.Undefined g below = None
 
--- two states with the steps made so far lead to the same state, after as many steps
+-- the step was made; or there is none, and the frames are the old ones
+abbrev pub IsFollowed : Option LocalState → List Frame → Bool → List Frame → Type 0
+IsFollowed step old true frames = step ≡ Some (Running frames Plain)
+IsFollowed step old false frames = (step ≡ None) × (frames ≡ old)
+
+-- the new state is some steps further, and both lead to the same state, after as many steps
 pub record IsOnTheWay (p : PlainProgram) (old : LocalState) (steps : ℕ) (new : LocalState) (steps' : ℕ) : Type 0 where
   pub state : settled_within p (MOST_LOCAL_STEPS - steps') new ≡ settled_within p (MOST_LOCAL_STEPS - steps) old
   pub count : steps' + steps_within p (MOST_LOCAL_STEPS - steps') new ≡ steps + steps_within p (MOST_LOCAL_STEPS - steps) old
+  pub more : steps ≤ steps'
+  pub after : after_steps p (steps' - steps) old ≡ Some new
 
 -- the state that another leads to was reached, and this is what the instruction of its top frame does
 pub record IsSettled (p : PlainProgram) (old : LocalState) (steps : ℕ) (f : Frame) (below : List Frame) (steps' : ℕ) (a : Acted) : Type 0 where

@@ -1,28 +1,36 @@
 // What is kept in statics, objects, arrays and monitors.
-ghost use Rattle.std.specs.Prelude.{◌≡◌, Some, None, if◌then◌else◌};
+ghost use Rattle.std.specs.Prelude.{◌≡◌, ◌<◌, ◌≤◌, ◌^◌, length, false};
+ghost use Rattle.vm_model.specs.declared.limits.TheConstants.{MOST_TEXT_BYTES};
 ghost use Rattle.machine_model.specs.Effect.{effect};
 ghost use Rattle.machine_model.specs.Operands.{as_index, as_length, Asks};
 ghost use Rattle.local_machine.specs.Acts.{plain, acted_of, after};
-ghost use Rattle.local_machine.specs.Families.{is_access};
+ghost use Rattle.local_machine.specs.Families.{is_arithmetic, is_jump, is_moving};
 
 use crate::acted::Acted;
+use crate::calling::calling;
 use crate::frame::Frame;
 use vm_model::{FaultKind, Instr, Lock, ObjRef, Op, Program, Value};
 
-/// What the instruction asks for, if it reads or writes a static, a field or an array, makes an object or an array, or works
-/// on a monitor (JVMS SE 8 §2.11.5, §2.11.10). The tests for null, for bounds and for a negative length come first.
-pub fn accessing(frame: &Frame, program: &Program, instr: Instr) -> Option<Acted>
-    ensures acted { result ≡ (if is_access instr then Some (acted_of (effect program.now instr (plain frame.now))) else None) }
-    ensures frame { plain frame.now ≡ (if is_access instr then after (effect program.now instr (plain frame.now)) (plain frame.now) else plain frame.now) }
+/// What the instruction does, if no family before this one has it. Here are those that read or write a static, a field or an
+/// array, make an object or an array, or work on a monitor (JVMS SE 8 §2.11.5, §2.11.10). The tests for null, for bounds and
+/// for a negative length come first.
+pub fn accessing(frame: &mut Frame, program: &Program, instr: Instr) -> Acted
+    requires place { frame.old.place < 2 ^ 31 }
+    requires few { length program.now.methods ≤ MOST_TEXT_BYTES }
+    requires not_moving { is_moving instr ≡ false }
+    requires not_arithmetic { is_arithmetic instr ≡ false }
+    requires no_jump { is_jump instr ≡ false }
+    ensures acted { result ≡ acted_of (effect program.now instr (plain frame.old)) }
+    ensures room { frame.old.stack.room ≤ frame.new.stack.room }
+    ensures frame { plain frame.new ≡ after (effect program.now instr (plain frame.old)) (plain frame.old) }
 {
-    let top = frame.stack.peek(0);
-    Some(match instr {
+    match instr {
         Instr::GetStatic(slot) => Acted::Asks(Op::GetStatic { slot }, 0),
-        Instr::PutStatic(slot) => match top {
+        Instr::PutStatic(slot) => match frame.stack.peek(0) {
             Some(value) => Acted::Asks(Op::PutStatic { slot, value }, 1),
             None => Acted::Undefined,
         },
-        Instr::GetField { place, .. } => match top {
+        Instr::GetField { place, .. } => match frame.stack.peek(0) {
             Some(Value::Obj { id, class }) => {
                 let obj = ObjRef { id, class };
                 Acted::Asks(Op::GetField { obj, place }, 1)
@@ -57,7 +65,7 @@ pub fn accessing(frame: &Frame, program: &Program, instr: Instr) -> Option<Acted
             Some(n) => new_array(n),
             None => Acted::Undefined,
         },
-        Instr::MonitorEnter => match top {
+        Instr::MonitorEnter => match frame.stack.peek(0) {
             Some(Value::Obj { id, .. } | Value::Arr { id, .. }) => {
                 let lock = Lock::Object(id);
                 Acted::Asks(Op::Enter { lock }, 1)
@@ -65,7 +73,7 @@ pub fn accessing(frame: &Frame, program: &Program, instr: Instr) -> Option<Acted
             Some(Value::Null) => Acted::Fails(FaultKind::NullPointer),
             _ => Acted::Undefined,
         },
-        Instr::MonitorExit => match top {
+        Instr::MonitorExit => match frame.stack.peek(0) {
             Some(Value::Obj { id, .. } | Value::Arr { id, .. }) => {
                 let lock = Lock::Object(id);
                 Acted::Asks(Op::Exit { lock }, 1)
@@ -73,7 +81,7 @@ pub fn accessing(frame: &Frame, program: &Program, instr: Instr) -> Option<Acted
             Some(Value::Null) => Acted::Fails(FaultKind::NullPointer),
             _ => Acted::Undefined,
         },
-        Instr::Wait => match top {
+        Instr::Wait => match frame.stack.peek(0) {
             Some(Value::Obj { id, .. } | Value::Arr { id, .. }) => {
                 let lock = Lock::Object(id);
                 Acted::Asks(Op::Wait { lock }, 1)
@@ -81,7 +89,7 @@ pub fn accessing(frame: &Frame, program: &Program, instr: Instr) -> Option<Acted
             Some(Value::Null) => Acted::Fails(FaultKind::NullPointer),
             _ => Acted::Undefined,
         },
-        Instr::Notify => match top {
+        Instr::Notify => match frame.stack.peek(0) {
             Some(Value::Obj { id, .. } | Value::Arr { id, .. }) => {
                 let lock = Lock::Object(id);
                 Acted::Asks(Op::Notify { lock }, 1)
@@ -89,7 +97,7 @@ pub fn accessing(frame: &Frame, program: &Program, instr: Instr) -> Option<Acted
             Some(Value::Null) => Acted::Fails(FaultKind::NullPointer),
             _ => Acted::Undefined,
         },
-        Instr::NotifyAll => match top {
+        Instr::NotifyAll => match frame.stack.peek(0) {
             Some(Value::Obj { id, .. } | Value::Arr { id, .. }) => {
                 let lock = Lock::Object(id);
                 Acted::Asks(Op::NotifyAll { lock }, 1)
@@ -97,8 +105,8 @@ pub fn accessing(frame: &Frame, program: &Program, instr: Instr) -> Option<Acted
             Some(Value::Null) => Acted::Fails(FaultKind::NullPointer),
             _ => Acted::Undefined,
         },
-        _ => return None,
-    })
+        _ => calling(frame, program, instr),
+    }
 }
 
 /// `iaload` of an array of that length.

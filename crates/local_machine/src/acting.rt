@@ -4,16 +4,13 @@ ghost use Rattle.vm_model.specs.declared.limits.TheConstants.{MOST_TEXT_BYTES};
 ghost use Rattle.machine_model.specs.Effect.{effect};
 ghost use Rattle.local_machine.specs.Acts.{plain, acted_of, after};
 
-use crate::accessing::accessing;
 use crate::acted::Acted;
-use crate::arithmetic::arithmetic;
-use crate::calling::calling;
 use crate::frame::Frame;
-use crate::jumping::jumping;
 use crate::moving::moving;
 use vm_model::{Instr, Program};
 
 /// What this instruction does at this frame (JVMS SE 8 §6.5). A step of the thread alone changes the frame; nothing else does.
+/// Each family of instructions passes on what it hasn't to the next one, so no instruction is tried twice.
 pub fn act(frame: &mut Frame, program: &Program, instr: Instr) -> Acted
     requires place { frame.old.place < 2 ^ 31 }
     requires room { length frame.old.stack.values + 2 ≤ frame.old.stack.room }
@@ -22,17 +19,5 @@ pub fn act(frame: &mut Frame, program: &Program, instr: Instr) -> Acted
     ensures room { frame.old.stack.room ≤ frame.new.stack.room }
     ensures frame { plain frame.new ≡ after (effect program.now instr (plain frame.old)) (plain frame.old) }
 {
-    if let Some(acted) = moving(frame, program, instr) {
-        return acted;
-    }
-    if let Some(acted) = arithmetic(frame, program, instr) {
-        return acted;
-    }
-    if let Some(acted) = jumping(frame, program, instr) {
-        return acted;
-    }
-    if let Some(acted) = accessing(frame, program, instr) {
-        return acted;
-    }
-    calling(frame, program, instr)
+    moving(frame, program, instr)
 }

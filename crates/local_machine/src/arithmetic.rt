@@ -1,24 +1,28 @@
 // Numbers made of numbers.
-ghost use Rattle.std.specs.Prelude.{◌≡◌, ◌+◌, ◌<◌, ◌≤◌, ◌^◌, length, Some, None, if◌then◌else◌};
+ghost use Rattle.std.specs.Prelude.{◌≡◌, ◌+◌, ◌<◌, ◌≤◌, ◌^◌, length, false};
+ghost use Rattle.vm_model.specs.declared.limits.TheConstants.{MOST_TEXT_BYTES};
 ghost use Rattle.machine_model.specs.Effect.{effect, shift_right_unsigned};
 ghost use Rattle.local_machine.specs.Acts.{plain, acted_of, after};
-ghost use Rattle.local_machine.specs.Families.{is_arithmetic};
+ghost use Rattle.local_machine.specs.Families.{is_moving};
 
 use crate::acted::Acted;
 use crate::frame::Frame;
+use crate::jumping::jumping;
 use vm_model::{FaultKind, Instr, Program, Value};
 
-/// What the instruction does, if it makes a number of numbers or of an array (JVMS SE 8 §2.11.3, §6.5 `arraylength`). For any
-/// other instruction it does nothing. Sums, differences and products keep their low 32 bits; of the number of bits to shift
-/// by, the low 5 bits count.
-pub fn arithmetic(frame: &mut Frame, program: &Program, instr: Instr) -> Option<Acted>
+/// What the instruction does, if `moving` hasn't it. Here are those that make a number of numbers or of an array (JVMS SE 8
+/// §2.11.3, §6.5 `arraylength`). Sums, differences and products keep their low 32 bits; of the number of bits to shift by,
+/// the low 5 bits count.
+pub fn arithmetic(frame: &mut Frame, program: &Program, instr: Instr) -> Acted
     requires place { frame.old.place < 2 ^ 31 }
     requires room { length frame.old.stack.values + 2 ≤ frame.old.stack.room }
-    ensures acted { result ≡ (if is_arithmetic instr then Some (acted_of (effect program.now instr (plain frame.old))) else None) }
+    requires few { length program.now.methods ≤ MOST_TEXT_BYTES }
+    requires not_moving { is_moving instr ≡ false }
+    ensures acted { result ≡ acted_of (effect program.now instr (plain frame.old)) }
     ensures room { frame.old.stack.room ≤ frame.new.stack.room }
-    ensures frame { plain frame.new ≡ (if is_arithmetic instr then after (effect program.now instr (plain frame.old)) (plain frame.old) else plain frame.old) }
+    ensures frame { plain frame.new ≡ after (effect program.now instr (plain frame.old)) (plain frame.old) }
 {
-    Some(match instr {
+    match instr {
         Instr::Iadd => match frame.stack.ints() {
             (Some(x), Some(y)) => frame.put(2, Value::Int(x.wrapping_add(y))),
             _ => Acted::Undefined,
@@ -74,8 +78,8 @@ pub fn arithmetic(frame: &mut Frame, program: &Program, instr: Instr) -> Option<
             Some(Value::Null) => Acted::Fails(FaultKind::NullPointer),
             _ => Acted::Undefined,
         },
-        _ => return None,
-    })
+        _ => jumping(frame, program, instr),
+    }
 }
 
 /// `iushr`: the bits moved to the right, with zeros after them.

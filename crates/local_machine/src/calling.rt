@@ -11,8 +11,8 @@ use crate::acted::Acted;
 use crate::frame::Frame;
 use vm_model::{FaultKind, Instr, Lock, ObjRef, Op, Piece, Program, Value};
 
-/// What the instruction does, if it calls or returns, throws, or stands for a method of the class library (JVMS SE 8 §2.11.8).
-/// A step of the thread alone changes the frame; nothing else does.
+/// What the instruction does, if no family before this one has it: it calls or returns, throws, or stands for a method of the
+/// class library (JVMS SE 8 §2.11.8).
 pub fn calling(frame: &mut Frame, program: &Program, instr: Instr) -> Acted
     requires place { frame.old.place < 2 ^ 31 }
     requires few { length program.now.methods ≤ MOST_TEXT_BYTES }
@@ -24,23 +24,22 @@ pub fn calling(frame: &mut Frame, program: &Program, instr: Instr) -> Acted
     ensures room { frame.old.stack.room ≤ frame.new.stack.room }
     ensures frame { plain frame.new ≡ after (effect program.now instr (plain frame.old)) (plain frame.old) }
 {
-    let top = frame.stack.peek(0);
     match instr {
-        Instr::Athrow => match top {
+        Instr::Athrow => match frame.stack.peek(0) {
             Some(Value::Obj { class, .. }) => Acted::Fails(FaultKind::Thrown(class)),
             Some(Value::Null) => Acted::Fails(FaultKind::NullPointer),
             _ => Acted::Undefined,
         },
         Instr::InvokeStatic(m) => call_static(frame, program, m),
         Instr::InvokeVirtual(m) | Instr::InvokeSpecial(m) => call_on(frame, program, m),
-        Instr::RunOf(_) => match top {
+        Instr::RunOf(_) => match frame.stack.peek(0) {
             Some(Value::Obj { class, .. }) => {
                 call_on(frame, program, run_method(program, class))
             }
             Some(Value::Null) => Acted::Fails(FaultKind::NullPointer),
             _ => Acted::Undefined,
         },
-        Instr::Start => match top {
+        Instr::Start => match frame.stack.peek(0) {
             Some(Value::Obj { id, class }) => {
                 let target = ObjRef { id, class };
                 Acted::Asks(Op::Start { target }, 1)
@@ -48,7 +47,7 @@ pub fn calling(frame: &mut Frame, program: &Program, instr: Instr) -> Acted
             Some(Value::Null) => Acted::Fails(FaultKind::NullPointer),
             _ => Acted::Undefined,
         },
-        Instr::Join => match top {
+        Instr::Join => match frame.stack.peek(0) {
             Some(Value::Obj { id, .. }) => Acted::Asks(Op::Join { obj: id }, 1),
             Some(Value::Null) => Acted::Fails(FaultKind::NullPointer),
             _ => Acted::Undefined,
@@ -61,7 +60,7 @@ pub fn calling(frame: &mut Frame, program: &Program, instr: Instr) -> Acted
             (Some(Value::Null), Some(_)) => Acted::Fails(FaultKind::NullPointer),
             _ => Acted::Undefined,
         },
-        Instr::Init { text: false, .. } => match top {
+        Instr::Init { text: false, .. } => match frame.stack.peek(0) {
             Some(Value::Obj { .. }) | Some(Value::Arr { .. }) => frame.take(1),
             Some(Value::Null) => Acted::Fails(FaultKind::NullPointer),
             _ => Acted::Undefined,
@@ -81,7 +80,7 @@ pub fn calling(frame: &mut Frame, program: &Program, instr: Instr) -> Acted
             (Some(Value::Null), Some(_)) => Acted::Fails(FaultKind::NullPointer),
             _ => Acted::Undefined,
         },
-        Instr::Println => match top {
+        Instr::Println => match frame.stack.peek(0) {
             Some(v) => print(v, Piece::Nothing, true, 1),
             None => Acted::Undefined,
         },
@@ -99,7 +98,7 @@ pub fn calling(frame: &mut Frame, program: &Program, instr: Instr) -> Acted
             Some(n) => Acted::Gives(Some(Value::Int(n))),
             None => Acted::Undefined,
         },
-        Instr::Areturn => match top {
+        Instr::Areturn => match frame.stack.peek(0) {
             Some(v) => Acted::Gives(Some(v)),
             None => Acted::Undefined,
         },

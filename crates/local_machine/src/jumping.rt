@@ -1,23 +1,28 @@
 // Jumps.
-ghost use Rattle.std.specs.Prelude.{◌≡◌, ◌+◌, ◌<◌, ◌≤◌, ◌^◌, length, Some, None, if◌then◌else◌};
+ghost use Rattle.std.specs.Prelude.{◌≡◌, ◌+◌, ◌<◌, ◌≤◌, ◌^◌, length, false};
+ghost use Rattle.vm_model.specs.declared.limits.TheConstants.{MOST_TEXT_BYTES};
 ghost use Rattle.machine_model.specs.Kinds.{is_null as is_null_value};
 ghost use Rattle.machine_model.specs.Effect.{effect, same_reference as same_references};
 ghost use Rattle.local_machine.specs.Acts.{plain, acted_of, after};
-ghost use Rattle.local_machine.specs.Families.{is_jump};
+ghost use Rattle.local_machine.specs.Families.{is_arithmetic, is_moving};
 
+use crate::accessing::accessing;
 use crate::acted::Acted;
 use crate::frame::Frame;
 use vm_model::{Instr, Program, Value};
 
-/// What the instruction does, if it is a jump (JVMS SE 8 §2.11.7). For any other instruction it does nothing.
-pub fn jumping(frame: &mut Frame, program: &Program, instr: Instr) -> Option<Acted>
+/// What the instruction does, if no family before this one has it. Here are the jumps (JVMS SE 8 §2.11.7).
+pub fn jumping(frame: &mut Frame, program: &Program, instr: Instr) -> Acted
     requires place { frame.old.place < 2 ^ 31 }
     requires room { length frame.old.stack.values + 2 ≤ frame.old.stack.room }
-    ensures acted { result ≡ (if is_jump instr then Some (acted_of (effect program.now instr (plain frame.old))) else None) }
+    requires few { length program.now.methods ≤ MOST_TEXT_BYTES }
+    requires not_moving { is_moving instr ≡ false }
+    requires not_arithmetic { is_arithmetic instr ≡ false }
+    ensures acted { result ≡ acted_of (effect program.now instr (plain frame.old)) }
     ensures room { frame.old.stack.room ≤ frame.new.stack.room }
-    ensures frame { plain frame.new ≡ (if is_jump instr then after (effect program.now instr (plain frame.old)) (plain frame.old) else plain frame.old) }
+    ensures frame { plain frame.new ≡ after (effect program.now instr (plain frame.old)) (plain frame.old) }
 {
-    Some(match instr {
+    match instr {
         Instr::Ifeq(to) => match frame.stack.peek_int(0) {
             Some(y) => frame.branch(1, y == 0, to),
             None => Acted::Undefined,
@@ -83,8 +88,8 @@ pub fn jumping(frame: &mut Frame, program: &Program, instr: Instr) -> Option<Act
             None => Acted::Undefined,
         },
         Instr::Goto(to) => frame.branch(0, true, to),
-        _ => return None,
-    })
+        _ => accessing(frame, program, instr),
+    }
 }
 
 /// Whether the value is null.

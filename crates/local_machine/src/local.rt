@@ -1,10 +1,11 @@
 // A thread by itself.
-ghost use Rattle.std.specs.Prelude.{◌≡◌, ◌≤◌, ◌↔◌, IfOk, OnOk, OnErr, IsSome, IsTrue, Some, length};
+ghost use Rattle.std.specs.Prelude.{◌≡◌, ◌≤◌, ◌↔◌, IfOk, IsOk, OnOk, OnErr, IsSome, IsTrue, Some, length};
 ghost use Rattle.vm_model.specs.declared.limits.TheConstants.{MOST_LOCAL_STEPS};
 ghost use Rattle.vm_model.specs.Program.{method_at};
 ghost use Rattle.machine_model.specs.Frames.{Ended};
 ghost use Rattle.machine_model.specs.Effect.{lock_if as model_lock_if};
 ghost use Rattle.machine_model.specs.LocalStep.{begun_in, class_of, first_of_main, first_of_thread, is_synchronized};
+ghost use Rattle.local_machine.specs.Further.{IsAtRest, IsFurther};
 ghost use Rattle.local_machine.specs.LocalView.{IsReady, absorbed_by, advanced, fresh};
 
 use crate::calling::{lock_if, run_method};
@@ -145,6 +146,8 @@ impl Local {
     pub fn advance(&mut self, alloc: Global, plain: &Plain) -> Result<(), NoMemory>
         ensures ok { OnOk result (self.new ≡ advanced plain.now self.old) }
         ensures err { OnErr result (advanced plain.now self.new ≡ advanced plain.now self.old) }
+        ensures further { OnErr result (IsFurther plain.now self.old self.new) }
+        ensures stays { IsAtRest self.old → IsOk result × (self.new ≡ self.old) }
     {
         if self.ready.is_some() {
             return Ok(());

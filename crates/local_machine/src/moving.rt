@@ -1,23 +1,25 @@
 // Constants, locals, and the order of operands.
-ghost use Rattle.std.specs.Prelude.{◌≡◌, ◌+◌, ◌<◌, ◌≤◌, ◌^◌, length, Some, None, if◌then◌else◌};
+ghost use Rattle.std.specs.Prelude.{◌≡◌, ◌+◌, ◌<◌, ◌≤◌, ◌^◌, length};
+ghost use Rattle.vm_model.specs.declared.limits.TheConstants.{MOST_TEXT_BYTES};
 ghost use Rattle.machine_model.specs.Effect.{effect};
 ghost use Rattle.local_machine.specs.Acts.{plain, acted_of, after};
-ghost use Rattle.local_machine.specs.Families.{is_moving};
 
 use crate::acted::Acted;
+use crate::arithmetic::arithmetic;
 use crate::frame::Frame;
 use vm_model::{Instr, Program, Value};
 
-/// What the instruction does, if it pushes a constant, reads or writes a local, or orders operands (JVMS SE 8 §2.11.2,
-/// §2.11.6). For any other instruction it does nothing.
-pub fn moving(frame: &mut Frame, program: &Program, instr: Instr) -> Option<Acted>
+/// What the instruction does. Here are those that push a constant, read or write a local, or order operands (JVMS SE 8
+/// §2.11.2, §2.11.6).
+pub fn moving(frame: &mut Frame, program: &Program, instr: Instr) -> Acted
     requires place { frame.old.place < 2 ^ 31 }
     requires room { length frame.old.stack.values + 2 ≤ frame.old.stack.room }
-    ensures acted { result ≡ (if is_moving instr then Some (acted_of (effect program.now instr (plain frame.old))) else None) }
+    requires few { length program.now.methods ≤ MOST_TEXT_BYTES }
+    ensures acted { result ≡ acted_of (effect program.now instr (plain frame.old)) }
     ensures room { frame.old.stack.room ≤ frame.new.stack.room }
-    ensures frame { plain frame.new ≡ (if is_moving instr then after (effect program.now instr (plain frame.old)) (plain frame.old) else plain frame.old) }
+    ensures frame { plain frame.new ≡ after (effect program.now instr (plain frame.old)) (plain frame.old) }
 {
-    Some(match instr {
+    match instr {
         Instr::Nop => frame.take(0),
         Instr::Push(n) => frame.put(0, Value::Int(n)),
         Instr::PushText(text) => frame.put(0, Value::Text(text)),
@@ -93,6 +95,6 @@ pub fn moving(frame: &mut Frame, program: &Program, instr: Instr) -> Option<Acte
             }
             _ => Acted::Undefined,
         },
-        _ => return None,
-    })
+        _ => arithmetic(frame, program, instr),
+    }
 }

@@ -1,11 +1,12 @@
 // The way to the next operation.
-ghost use Rattle.std.specs.Prelude.{◌≡◌, ◌≤◌, length, IfOk, OnErr, vec_len, vec_capacity};
+ghost use Rattle.std.specs.Prelude.{◌≡◌, ◌≤◌, length, true, IfOk, OnErr, vec_len, vec_capacity};
 ghost use Rattle.vm_model.specs.declared.limits.TheConstants.{MOST_LOCAL_STEPS, MOST_TEXT_BYTES};
 ghost use Rattle.vm_model.specs.Program.{IsSmall};
 ghost use Rattle.machine_model.specs.LocalStep.{entering as model_entering, fault_at as model_fault_at};
 ghost use Rattle.local_machine.specs.Acts.{plain};
 ghost use Rattle.local_machine.specs.Completions.{completion_with};
 ghost use Rattle.local_machine.specs.Fields.{AreAtCalls, HasRoomFor, Stands, callers, completion_of};
+ghost use Rattle.local_machine.specs.LocalView.{is_running};
 ghost use Rattle.local_machine.specs.States.{HasRoomIn, IsReached, state_of, wanted, wanted_call, wanted_return};
 ghost use Rattle.local_machine.specs.Steps.{IsOnTheWay};
 
@@ -52,52 +53,55 @@ fn wanted_by_return(lock: Option<Lock>, has_caller: bool) -> Op
     }
 }
 
-/// The operation of a frame whose instruction does this, with so many frames below it. A step of the thread alone that is left
-/// makes a Tick.
-fn wanted_by(acted: Acted, frame: &Frame, below: usize) -> Option<Op>
-    ensures { result ≡ wanted acted (plain frame.now) below }
-{
-    match acted {
-        Acted::Goes => Some(Op::Tick),
-        Acted::Calls(_, lock) => Some(wanted_by_call(lock, frame, below < MOST_FRAMES - 1)),
-        Acted::Gives(_) => Some(wanted_by_return(frame.lock, 0 < below)),
-        Acted::Asks(op, _) => Some(op),
-        Acted::Fails(kind) => Some(fault_at(kind, frame)),
-        Acted::Undefined => None,
-    }
-}
-
-/// What completes an instruction that does this. It makes the room that this takes.
+/// What a frame whose instruction does this asks for, and what completes it, with the room that this takes. A step of the
+/// thread alone that is left makes a Tick.
 fn prepare(
     alloc: Global,
     program: &Program,
     acted: Acted,
     top: &Frame,
     below: &mut Vec<Frame>,
-) -> Result<Completion, NoMemory>
+) -> Result<Ready, NoMemory>
     requires { Stands acted top.now }
-    ensures value { IfOk result (λ c. completion_of c ≡ completion_with program.now acted (plain top.now)) }
-    ensures room { IfOk result (λ c. HasRoomFor c top.now below.new.items (vec_len below.new) (vec_capacity below.new)) }
+    ensures op { IfOk result (λ r. r.op ≡ wanted acted (plain top.now) (length below.old.items)) }
+    ensures completion { IfOk result (λ r. completion_of r.completion ≡ completion_with program.now acted (plain top.now)) }
+    ensures room { IfOk result (λ r. HasRoomFor r.completion top.now below.new.items (vec_len below.new) (vec_capacity below.new)) }
     ensures below { callers below.new.items ≡ callers below.old.items }
 {
     match acted {
-        Acted::Goes => Ok(Completion::Nothing),
+        Acted::Goes => Ok(Ready {
+            op: Some(Op::Tick),
+            completion: Completion::Nothing,
+        }),
         Acted::Calls(method, lock) => {
+            let op = Some(wanted_by_call(lock, top, below.len() < MOST_FRAMES - 1));
             let taken = arity_at(program, method);
             let arguments = top.stack.arguments(taken);
             let callee = first_frame(alloc, program, method, arguments, lock)?;
             let Ok(()) = below.reserve(1) else {
                 return Err(NoMemory);
             };
-            Ok(Completion::Calls(taken, callee))
+            let completion = Completion::Calls(taken, callee);
+            Ok(Ready { op, completion })
         }
         Acted::Gives(given) => {
+            let op = Some(wanted_by_return(top.lock, 0 < below.len()));
             reserve_caller(below)?;
-            Ok(Completion::Gives(given))
+            let completion = Completion::Gives(given);
+            Ok(Ready { op, completion })
         }
-        Acted::Asks(_, taken) => Ok(Completion::Takes(taken)),
-        Acted::Fails(_) => Ok(Completion::Nothing),
-        Acted::Undefined => Ok(Completion::Nothing),
+        Acted::Asks(op, taken) => Ok(Ready {
+            op: Some(op),
+            completion: Completion::Takes(taken),
+        }),
+        Acted::Fails(kind) => Ok(Ready {
+            op: Some(fault_at(kind, top)),
+            completion: Completion::Nothing,
+        }),
+        Acted::Undefined => Ok(Ready {
+            op: None,
+            completion: Completion::Nothing,
+        }),
     }
 }
 
@@ -117,20 +121,21 @@ pub fn reach(
     ensures ok { IfOk result (λ ready. IsReached program.now (state_of phase top.old below.old.items) steps.old (state_of phase top.new below.new.items) steps.new ready) }
     ensures room { IfOk result (λ ready. HasRoomIn ready top.new below.new.items (vec_len below.new) (vec_capacity below.new)) }
     ensures err { OnErr result (IsOnTheWay program.now (state_of phase top.old below.old.items) steps.old (state_of phase top.new below.new.items) steps.new) }
+    ensures running { OnErr result (is_running (state_of phase top.old below.old.items) ≡ true) }
     ensures steps { steps.new ≤ MOST_LOCAL_STEPS }
     ensures below { AreAtCalls (callers below.new.items) }
 {
     match phase {
         Phase::Plain => {
             let acted = settle(alloc, program, top, below, steps)?;
-            let op = wanted_by(acted, top, below.len());
-            let completion = prepare(alloc, program, acted, top, below)?;
-            Ok(Some(Ready { op, completion }))
+            let ready = prepare(alloc, program, acted, top, below)?;
+            Ok(Some(ready))
         }
         Phase::Waiting { lock, count } => {
             let acted = look(alloc, program, top)?;
+            let ready = prepare(alloc, program, acted, top, below)?;
             let op = Some(Op::Resume { lock, count });
-            let completion = prepare(alloc, program, acted, top, below)?;
+            let completion = ready.completion;
             Ok(Some(Ready { op, completion }))
         }
         Phase::Entering => {

@@ -1,13 +1,13 @@
 // Steps of the thread alone.
-ghost use Rattle.std.specs.Prelude.{◌≡◌, ◌+◌, ◌<◌, ◌≤◌, ◌^◌, length, IfOk, OnOk, OnErr};
+ghost use Rattle.std.specs.Prelude.{◌≡◌, ◌≢◌, ◌+◌, ◌<◌, ◌≤◌, ◌^◌, length, IfOk, OnOk, OnErr};
 ghost use Rattle.vm_model.specs.declared.limits.TheConstants.{MOST_TEXT_BYTES};
 ghost use Rattle.vm_model.specs.Program.{IsSmall};
 ghost use Rattle.machine_model.specs.Frames.{Running, Plain};
 ghost use Rattle.machine_model.specs.Effect.{action};
 ghost use Rattle.machine_model.specs.LocalStep.{call_frames};
 ghost use Rattle.local_machine.specs.Acts.{plain, acted_of, after};
-ghost use Rattle.local_machine.specs.Fields.{AreAtCalls, HasRoom, Stands, StandsWhere, callers, frames_of};
-ghost use Rattle.local_machine.specs.Steps.{Stepped, IsOnTheWay, IsSettled};
+ghost use Rattle.local_machine.specs.Fields.{AreAtCalls, HasRoom, Stands, StandsUnless, callers, frames_of};
+ghost use Rattle.local_machine.specs.Steps.{IsFollowed, IsOnTheWay, IsSettled, followed};
 
 use crate::acted::Acted;
 use crate::acting::act;
@@ -55,47 +55,42 @@ fn call(
     Ok(())
 }
 
-/// Makes a step of the thread alone. Where there is none, it answers what the instruction does, and changes nothing.
-fn step(
+/// What is left of a step of the thread alone once its instruction did this to the top frame: a call or a return. False where
+/// there is no step; nothing is changed then.
+fn follow(
     alloc: Global,
     program: &Program,
+    acted: Acted,
     top: &mut Frame,
     below: &mut Vec<Frame>,
-) -> Result<Option<Acted>, NoMemory>
-    requires small { IsSmall program.now }
-    requires few { length program.now.methods ≤ MOST_TEXT_BYTES }
+) -> Result<bool, NoMemory>
+    requires stands { Stands acted top.old }
     requires below { AreAtCalls (callers below.old.items) }
-    ensures ok { IfOk result (λ acted. Stepped program.now (plain top.old) (callers below.old.items) acted (frames_of top.new below.new.items)) }
-    ensures place { IfOk result (λ acted. StandsWhere acted top.new) }
-    ensures err { OnErr result (frames_of top.new below.new.items ≡ frames_of top.old below.old.items) }
+    ensures ok { IfOk result (λ made. IsFollowed (followed program.now acted (plain top.old) (callers below.old.items)) (frames_of top.old below.old.items) made (frames_of top.new below.new.items)) }
+    ensures stands { IfOk result (λ made. StandsUnless made acted top.new) }
+    ensures err { OnErr result ((acted ≢ Acted.Goes) × (frames_of top.new below.new.items ≡ frames_of top.old below.old.items)) }
     ensures below { AreAtCalls (callers below.new.items) }
 {
-    top.reserve()?;
-    let acted = act_at_place(top, program);
     match acted {
-        Acted::Goes => Ok(None),
+        Acted::Goes => Ok(true),
         Acted::Calls(method, lock) => {
             if lock.is_some() {
-                return Ok(Some(acted));
+                return Ok(false);
             }
             if below.len() >= MOST_FRAMES - 1 {
-                return Ok(Some(acted));
+                return Ok(false);
             }
             call(alloc, program, method, lock, top, below)?;
-            Ok(None)
+            Ok(true)
         }
         Acted::Gives(given) => {
             if top.lock.is_some() {
-                return Ok(Some(acted));
+                return Ok(false);
             }
             reserve_caller(below)?;
-            if give_back(given, top, below) {
-                Ok(None)
-            } else {
-                Ok(Some(acted))
-            }
+            Ok(give_back(given, top, below))
         }
-        _ => Ok(Some(acted)),
+        _ => Ok(false),
     }
 }
 
@@ -132,7 +127,9 @@ pub fn settle(
     ensures below { AreAtCalls (callers below.new.items) }
 {
     while *steps < MOST_LOCAL_STEPS {
-        if let Some(acted) = step(alloc, program, top, below)? {
+        top.reserve()?;
+        let acted = act_at_place(top, program);
+        if !follow(alloc, program, acted, top, below)? {
             return Ok(acted);
         }
         *steps += 1;

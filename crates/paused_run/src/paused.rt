@@ -13,7 +13,7 @@ ghost use Rattle.paused_run.specs.Partings.{AreAlike, PartAt};
 ghost use Rattle.paused_run.specs.Pauses.{clock_of, IsPausedOf};
 
 use crate::waiting::{parting, passed_before, places_at};
-use event_machine::{Machine, TurnFault};
+use event_machine::Machine;
 use std::alloc::Global;
 use std::marker::Model;
 use vm_model::{End, NoMemory, Plain};
@@ -52,11 +52,8 @@ fn turn_of(machine: &mut Machine, alloc: Global, plain: &Plain, thread: u32) -> 
     ensures turned { OnOk result (turn plain.now (machine_of machine.old) thread ≡ Some (machine_of machine.new)) }
     ensures budget { OnOk result (machine.new.world.budget ≡ machine.old.world.budget) }
 {
-    match machine.turn(alloc, plain, thread) {
-        Ok(_) => Ok(()),
-        Err(TurnFault::NoMemory) => Err(NoMemory),
-        Err(_) => unreachable!(),
-    }
+    machine.make(alloc, plain, thread)?;
+    Ok(())
 }
 
 impl Paused {

@@ -17,6 +17,7 @@ use Rattle.schedule_log.specs.Foldings.{PlainFolding}
 use Rattle.schedule_log.specs.Logs.{PlainLog, IsLawful, expansion}
 use Rattle.schedule_log.specs.Parts.{log_of_parts, AreParts, IsLoggable}
 use Rattle.schedule_log.proofs.Folded.{folded_run}
+use Rattle.event_machine.proofs.Ends.{find-true}
 use Rattle.thread_driver.specs.Recordings.{threads_on, IsRecording}
 
 pub length-threads_of : (h : List Entry) → length (threads_of h) ≡ length h
@@ -113,14 +114,6 @@ follows-ended p times events whole m t e ended f =
     sym (f.threads ∙ ap (λ (ts : List ℕ). threads_of m.history ++ ts) (scheduled-ended p times events m t (events - length m.history) e ended) ∙ append-nil (threads_of m.history))
 
 -- ---- the thread that is picked
-
-found : (P : ℕ → Bool) (x : ℕ) (xs : List ℕ) (u : ℕ) (b : Bool) → P x ≡ b → cond b (Some x) (find P xs) ≡ Some u → (find P xs ≡ Some u → P u ≡ true) → P u ≡ true
-found P x xs u true is e rest = let same : x ≡ u = cc in ap P (sym same) ∙ is
-found P x xs u false is e rest = rest e
-
-find-true : (P : ℕ → Bool) (xs : List ℕ) (u : ℕ) → find P xs ≡ Some u → P u ≡ true
-find-true P [] u e = cc
-find-true P (x ∷ xs) u e = found P x xs u (P x) refl e (find-true P xs u)
 
 pub picked-enabled : (p : PlainProgram) (m : MachineState) (t places u : ℕ) → pick p m t places ≡ Some u → is_enabled p m u ≡ true
 picked-enabled p m t places u e = find-true (is_enabled p m) (moved_on m t places ∷ ring_after m (moved_on m t places)) u e

@@ -12,7 +12,7 @@ ghost use Rattle.event_machine.specs.Turns.{Turned};
 ghost use Rattle.thread_driver.specs.Recordings.{threads_on, IsRecording};
 
 use crate::switches::{in_order, places_at};
-use event_machine::{Machine, TurnFault};
+use event_machine::{Machine, Next};
 use schedule_log::{Folding, Log};
 use std::alloc::Global;
 use vm_model::{End, MOST_THREADS, NoMemory, Plain};
@@ -70,11 +70,7 @@ fn record_event(
     }
     let part = &mut parts[thread as usize];
     part.reserve()?;
-    match machine.turn(alloc, plain, thread) {
-        Ok(_) => {}
-        Err(TurnFault::NoMemory) => return Err(NoMemory),
-        Err(_) => unreachable!(),
-    }
+    machine.make(alloc, plain, thread)?;
     part.note(clock);
     Ok(())
 }
@@ -146,12 +142,10 @@ pub fn record_schedule(
     let mut thread = 0;
     let mut passed = 0;
     loop {
-        if let Some(end) = machine.end() {
-            return finished(alloc, plain, &machine, parts, end);
-        }
         let places = places_at(&sorted[passed..], machine.world().clock());
-        let Some(next) = machine.pick(thread, places) else {
-            unreachable!()
+        let next = match machine.next(thread, places) {
+            Next::Ends(end) => return finished(alloc, plain, &machine, parts, end),
+            Next::Turns(next) => next,
         };
         record_event(alloc, plain, &mut machine, &mut parts, next)?;
         passed += places as usize;
@@ -179,11 +173,9 @@ pub fn record_on(
     ensures budget { IfOk result (λ r. r.log.budget ≡ machine.world.budget) }
 {
     loop {
-        if let Some(end) = machine.end() {
-            return finished(alloc, plain, &machine, parts, end);
-        }
-        let Some(next) = machine.pick(thread, 0) else {
-            unreachable!()
+        let next = match machine.next(thread, 0) {
+            Next::Ends(end) => return finished(alloc, plain, &machine, parts, end),
+            Next::Turns(next) => next,
         };
         record_event(alloc, plain, &mut machine, &mut parts, next)?;
         thread = next;

@@ -4,33 +4,24 @@ use Rattle.machine_model.specs.Machine.{end_of}
 use Rattle.machine_model.specs.Ring.{pick}
 use Rattle.event_machine.specs.MachineView.{machine_of}
 use Rattle.thread_driver.specs.Recordings.{threads_on}
-use Rattle.thread_driver.proofs.Recorded.{follows-ended, follows-more, left, open-picks, picked-enabled}
+use Rattle.thread_driver.proofs.Recorded.{follows-ended, follows-more, left, picked-enabled}
 use Rattle.thread_driver.proofs.record.record_on.Goals as goal
 
-pub returns-in-Some-clause-threads : goal.returns-in-Some-clause-threads
-returns-in-Some-clause-threads c =
+pub returns-in-Ends-clause-threads : goal.returns-in-Ends-clause-threads
+returns-in-Ends-clause-threads c =
     let p = c.args.plain.now in
     let m = c.loop-end.machine in
     let first = c.args.machine in
     let budget = first.world.budget in
     let kept = c.loop-end.invariant in
-    let ended : end_of p (machine_of m) budget ≡ Some c.in-Some.end = ap (λ (b : ℕ). end_of p (machine_of m) b) (sym kept.budget) ∙ sym (c.end.ensures.meaning p kept.own) ∙ c.in-Some.is in
-    IfOk-weaker c.finished.result _ _ (λ r e. e ∙ follows-ended p [] budget (threads_on p (machine_of first) c.args.thread budget) (machine_of m) c.loop-end.thread c.in-Some.end ended kept.follows) c.finished.ensures.threads
-
-pub unreachable-requires : goal.unreachable-requires
-unreachable-requires c =
-    let p = c.args.plain.now in
-    let m = c.loop-end.machine in
-    let kept = c.loop-end.invariant in
-    let going : end_of p (machine_of m) m.world.budget ≡ None = sym (c.end.ensures.meaning p kept.own) ∙ c.in_default.is in
-    let none : pick p (machine_of m) c.loop-end.thread 0 ≡ None = sym (c.pick.ensures.meaning p kept.own) ∙ c.in_default-pick.is in
-    open-picks p (machine_of m) m.world.budget c.loop-end.thread 0 going none
+    let ended : end_of p (machine_of m) budget ≡ Some c.in-Ends.end = ap (λ (b : ℕ). end_of p (machine_of m) b) (sym kept.budget) ∙ c.in-Ends.ensures.meaning p kept.own in
+    IfOk-weaker c.finished.result _ _ (λ r e. e ∙ follows-ended p [] budget (threads_on p (machine_of first) c.args.thread budget) (machine_of m) c.loop-end.thread c.in-Ends.end ended kept.follows) c.finished.ensures.threads
 
 pub record_event-requires-clause-enabled : goal.record_event-requires-clause-enabled
 record_event-requires-clause-enabled c =
     let p = c.args.plain.now in
     let m = c.loop-end.machine in
-    picked-enabled p (machine_of m) c.loop-end.thread 0 c.in-Some-pick.next (sym (c.pick.ensures.meaning p c.loop-end.invariant.own) ∙ c.in-Some-pick.is)
+    picked-enabled p (machine_of m) c.loop-end.thread 0 c.in-Turns.next (c.in-Turns.ensures.meaning p c.loop-end.invariant.own).1
 
 pub loop-end-smaller : goal.loop-end-smaller
 loop-end-smaller c =
@@ -38,7 +29,7 @@ loop-end-smaller c =
     let m = c.loop-end.machine in
     let kept = c.loop-end.invariant in
     let made = c.in_ok-record_event.ensures in
-    let going : end_of p (machine_of m) m.world.budget ≡ None = sym (c.end.ensures.meaning p kept.own) ∙ c.in_default.is in
+    let going : end_of p (machine_of m) m.world.budget ≡ None = (c.in-Turns.ensures.meaning p kept.own).0 in
     let room : length m.world.history < m.world.budget = left p (machine_of m) m.world.budget going (omega (arith, kept.follows.within, kept.budget)) in
     omega (arith, made.history, made.budget, room)
 
@@ -50,13 +41,13 @@ loop-end-preserved c =
     let budget = first.world.budget in
     let kept = c.loop-end.invariant in
     let made = c.in_ok-record_event.ensures in
-    let going : end_of p (machine_of m) budget ≡ None = ap (λ (b : ℕ). end_of p (machine_of m) b) (sym kept.budget) ∙ sym (c.end.ensures.meaning p kept.own) ∙ c.in_default.is in
-    let picked : pick p (machine_of m) c.loop-end.thread 0 ≡ Some c.in-Some-pick.next = sym (c.pick.ensures.meaning p kept.own) ∙ c.in-Some-pick.is in
+    let going : end_of p (machine_of m) budget ≡ None = ap (λ (b : ℕ). end_of p (machine_of m) b) (sym kept.budget) ∙ (c.in-Turns.ensures.meaning p kept.own).0 in
+    let picked : pick p (machine_of m) c.loop-end.thread 0 ≡ Some c.in-Turns.next = (c.in-Turns.ensures.meaning p kept.own).1 in
     record {
       own = made.own;
       whole = made.whole;
       budget = made.budget ∙ kept.budget;
       many = made.few;
       parts = made.parts;
-      follows = follows-more p [] budget (threads_on p (machine_of first) c.args.thread budget) (machine_of m) (machine_of c.record_event.new.machine) c.loop-end.thread c.in-Some-pick.next going picked made.turned kept.follows;
+      follows = follows-more p [] budget (threads_on p (machine_of first) c.args.thread budget) (machine_of m) (machine_of c.record_event.new.machine) c.loop-end.thread c.in-Turns.next going picked made.turned kept.follows;
     }
