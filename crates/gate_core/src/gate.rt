@@ -32,7 +32,7 @@ pub enum Begun {
 /// whatever other lanes do at the same time.
 pub trait Gate: Sync {
     ghost use Rattle.gate_core.specs.Seats.{GateView, SeatView, SeesMore};
-    ghost use Rattle.gate_core.specs.Gates.{BegunSeen, BegunTellsOff, BegunTried, EntriesAfter, OfferTellsOff, OfferTried, SameEntries};
+    ghost use Rattle.gate_core.specs.Gates.{BegunSeen, BegunTellsOff, BegunTried, EntriesAfter, OfferTellsOff, OfferTried, SameEntries, StandsBelow};
 
     type Seat: Send + Drop;
 
@@ -77,6 +77,7 @@ pub trait Gate: Sync {
         ensures seat { IsSeatOf self.now seat.new }
         ensures lanes { (told seat.new).lanes ≡ (told seat.old).lanes }
         ensures entries { SameEntries (told seat.old) (told seat.new) }
+        ensures above { StandsBelow result (told seat.new) }
         ensures sees { SeesMore (told seat.old) (told seat.new) }
         ensures tries { (told seat.old).tries ≤ (told seat.new).tries }
         ensures told_off { (told seat.new).is_told_off ≡ (told seat.old).is_told_off };

@@ -14,7 +14,7 @@ use Rattle.machine_model.specs.Operations.{entry, is_enabled}
 use Rattle.projection_laws.specs.Projections.{target_by, target_or, target_in}
 use Rattle.shared_world.specs.Worlds.{WorldState}
 use Rattle.gate_core.specs.Seats.{Placed, placed, SeesMore}
-use Rattle.gate_core.specs.Gates.{EntriesAfter, Adds}
+use Rattle.gate_core.specs.Gates.{EntriesAfter, Adds, StandsBelow}
 use Rattle.gate_core.specs.declared.gate.Offer.{Offer}
 use Rattle.record_gate.specs.declared.answers.Committing.{Committing}
 use Rattle.record_gate.specs.declared.answers.Committing.TheVariants as answer
@@ -60,6 +60,12 @@ pub taken : (b : Bool) (xs : List Placed) → b ≡ true → (if b then xs else 
 taken true xs is = refl
 taken false xs is = absurd (no is)
 
+own_below : (v : RecordView) (clock lane : ℕ) → length v.seen ≤ clock → has v.lanes lane ≡ true → All (λ (e : Placed). e.position < clock) (own_of v lane)
+own_below v clock lane seen mine =
+    let own : List Placed = entries_of_lane v.lane_count lane v.seen in
+    subst (λ (es : List Placed). All (λ (e : Placed). e.position < clock) es) (sym (taken (has v.lanes lane) own mine))
+    (All-from_recursion (λ (e : Placed). e.position < clock) own (below v.lane_count lane 0 clock v.seen (omega (arith, seen))))
+
 -- what the seat has seen changes, and its lanes don't
 record Stays (v v' : RecordView) : Type 0 where
   lanes : v'.lanes ≡ v.lanes
@@ -92,8 +98,7 @@ adds n s s' t o clock r count lane same x own =
     let here : t % v.lane_count ≡ t % n = ap (λ (m : ℕ). t % m) count in
     record {
       low = omega (arith, at, left, finds.within, finds.limit);
-      rising = subst (λ (es : List Placed). All (λ (e : Placed). e.position < clock) es) (sym (taken (has v.lanes (t % n)) (entries_of_lane v.lane_count (t % n) v.seen) lane))
-          (All-from_recursion (λ (e : Placed). e.position < clock) (entries_of_lane v.lane_count (t % n) v.seen) (below v.lane_count (t % n) 0 clock v.seen (omega (arith, seen))));
+      rising = own_below v clock (t % n) seen lane;
       added = renamed v s'.view (t % n) same
           ∙ (taken (has v.lanes (t % n)) (entries_of_lane v.lane_count (t % n) s'.view.seen) lane
           ∙ (own (t % n) lane
@@ -121,3 +126,7 @@ entries_after n s s' s'' t o a f count lane lanes count' x own is offered =
 
 pub listed : (xs : List ℕ) (x : ℕ) → Contains xs x → has xs x ≡ true
 listed xs x h = grind (arith, common_steps)
+
+-- a clock that isn't below the number of the events seen
+pub stands_below : (s : SeatState) (clock : ℕ) → length s.view.seen ≤ clock → StandsBelow clock (told_of s)
+stands_below s clock seen lane there = own_below s.view clock lane seen (listed s.view.lanes lane there)

@@ -1,6 +1,6 @@
 -- What the gate tells to lanes follows from what its calls ensure.
 use Rattle.std.proofs.Common.{◌≡◌, ◌≢◌, ◌==◌, true≢false, eqb-true, ℕ, zero, suc, ◌+◌, ◌%◌, ◌<◌, ◌≤◌, Bool, true, false, cond, List, [], ◌∷◌, ◌++◌, length, refl, sym, ap, ◌∙◌, subst, ⊎_elim, arith, Option, Some, None, Contains, eq-eqb, ne_eqb, append-nil}
-use Rattle.std.specs.List.{AllByRecursion}
+use Rattle.std.specs.List.{All, AllByRecursion}
 use Rattle.std.proofs.lemmas.List.{length-append}
 use Rattle.std.proofs.lemmas.List.Elements.{All-from_recursion}
 use mathlib.Core.List.{IsPrefix}
@@ -11,7 +11,7 @@ use Rattle.machine_model.specs.Operations.{entry}
 use Rattle.projection_laws.specs.Projections.{target_by, target_or, target_in}
 use Rattle.gate_core.specs.Seats.{Placed, placed}
 use Rattle.gate_core.specs.Histories.{numbered, of_lane, entries_of_lane}
-use Rattle.gate_core.specs.Gates.{EntriesAfter, SameEntries}
+use Rattle.gate_core.specs.Gates.{EntriesAfter, SameEntries, StandsBelow}
 use Rattle.schedule_log.proofs.Tiling.{contains_first, contains_more}
 use Rattle.schedule_log.specs.Intervals.{numbers}
 use Rattle.replay_gate.specs.declared.turning.Turning.{Turning}
@@ -79,6 +79,13 @@ below n lane clock bound (e ∷ es) l = front (is_of n lane e) (below n lane (cl
     front true rest = (omega arith, rest)
     front false rest = rest
 
+own_below : (v : ReplayView) (n lane clock : ℕ) → v.lane_count ≡ n → has v.lanes lane ≡ true → length v.seen ≤ clock → All (λ (p : Placed). p.position < clock) (own_of v lane)
+own_below v n lane clock count mine seen = All-from_recursion _ _ (subst (AllByRecursion (λ (p : Placed). p.position < clock)) (sym (own_at v n lane count mine)) (below n lane 0 clock v.seen (omega (arith, seen))))
+
+-- a clock that isn't below the number of the events seen
+pub stands_below : (s : SeatState) (clock : ℕ) → length s.view.seen ≤ clock → StandsBelow clock (told_of s)
+stands_below s clock seen lane there = own_below s.view s.view.lane_count lane clock refl (has_contained s.view.lanes lane there) seen
+
 -- the entries after an answer
 module _ (s t : SeatState) (n thread : ℕ) (o : Op) (e : s.view.lane_count ≡ n) (f : t.view.lane_count ≡ n) (same : SameLanes s.view t.view) where
   quiet : (answer : Turning) → ((lane : ℕ) → has s.view.lanes lane ≡ true → entries_of_lane n lane t.view.seen ≡ entries_of_lane n lane s.view.seen ++ added n lane thread o answer)
@@ -97,7 +104,7 @@ module _ (s t : SeatState) (n thread : ℕ) (o : Op) (e : s.view.lane_count ≡ 
       let event : List Placed = placed clock (entry thread o reply) ∷ [] in
       record {
         low = limit;
-        rising = All-from_recursion _ _ (subst (AllByRecursion (λ (p : Placed). p.position < clock)) (sym here) (below n lane 0 clock s.view.seen (omega arith)));
+        rising = own_below s.view n lane clock e has_lane (omega arith);
         added =
             own_at t.view n lane f (ap (λ ls. has ls lane) same.0 ∙ has_lane)
             ∙ own lane has_lane ∙ ap (λ (b : Bool). entries_of_lane n lane s.view.seen ++ cond b event []) (eq-eqb lane lane refl)

@@ -1,12 +1,14 @@
-//! Small logs of two threads, replayed by two lanes on one thread.
+//! Small logs of two threads, replayed by two lanes, on one thread and on two.
 ghost use Rattle.std.specs.Prelude.{◌≡◌, ◌%◌, ◌∷◌, [], Contains};
+ghost use Rattle.replay_gate.specs.Gates.{IsSeatOf};
 
-use crate::ReplayGate;
+use crate::{ReplayGate, ReplaySeat};
 use gate_core::{Begun, Gate, Offer, WorldGate};
 use schedule_log::{Log, decode};
 use shared_world::{Start, World, start_of};
 use std::alloc::Global;
 use std::test::Fail;
+use std::thread::{Threads, join_mut};
 use vm_model::{Class, Name, NoMemory, ObjRef, Op, Plain, Program, Reply, Value};
 
 const WORKER: u32 = 32;
@@ -187,6 +189,19 @@ fn first_other<G: Gate>(
     None
 }
 
+/// The world behind a gate of two lanes, when each seat has ended.
+fn closed<G: WorldGate>(gate: G, first: G::Seat, second: G::Seat) -> World
+    requires first { G.IsSeatOf gate first }
+    requires second { G.IsSeatOf gate second }
+    requires lane { (G.told first).lanes ≡ 0 ∷ [] }
+    requires other_lane { (G.told second).lanes ≡ 1 ∷ [] }
+    requires two { (G.about gate).lanes ≡ 2 }
+{
+    let mut both = first;
+    gate.join(&mut both, second);
+    gate.close(both)
+}
+
 /// What a gate of two lanes told on the way, and the world behind it.
 #[derive(Drop)]
 struct Told {
@@ -212,14 +227,13 @@ fn replay_both<G: WorldGate>(gate: G, seat: G::Seat, alloc: Global) -> Told
     let begun = gate.begun(&mut second, 1);
     let clock = gate.clock(&mut first);
     let other = first_other(&gate, alloc, &mut first, &mut second, &GOES_ON);
-    gate.join(&mut first, second);
     Told {
         other_start,
         early,
         begun,
         clock,
         other,
-        world: gate.close(first),
+        world: closed(gate, first, second),
     }
 }
 
@@ -274,6 +288,131 @@ fn a_thread_that_none_started(rt: HostRuntime) {
             assert_eq!(rt; begun, Begun::Over);
             assert_eq!(rt; offer, Offer::Leave);
         }
+        Err(NoMemory) => assert!(rt; false),
+    }
+}
+
+/// What thread 0 of the first log does.
+const MAKES: [Op; 4] = [
+    Op::New { class: WORKER },
+    Op::Start { target: TARGET },
+    Op::Tick,
+    Op::ThreadEnd,
+];
+
+/// What thread 1 does.
+const WORKS: [Op; 3] = [Op::Tick, Op::Yield, Op::ThreadEnd];
+
+/// How often an operation is offered before its thread gives up.
+const MOST_TRIES: u32 = 100_000;
+
+/// Offers an operation until it is committed, and answers its clock. It gives up at last.
+fn offer_long(
+    gate: &ReplayGate,
+    alloc: Global,
+    seat: &mut ReplaySeat,
+    thread: u32,
+    op: Op,
+) -> Option<u64>
+    requires seat { IsSeatOf gate.now seat.old }
+    requires lane { Contains seat.old.view.lanes (thread % gate.now.terms.lanes) }
+    ensures seat { IsSeatOf gate.now seat.new }
+    ensures lanes { seat.new.view.lanes ≡ seat.old.view.lanes }
+{
+    for _ in 0..MOST_TRIES {
+        if let Offer::Committed { clock, .. } = gate.offer(alloc, seat, thread, op) {
+            return Some(clock);
+        }
+    }
+    None
+}
+
+/// Offers a thread's operations, up to the first one with which it gives up. The answer is the clocks of the others.
+fn carry(
+    gate: &ReplayGate,
+    alloc: Global,
+    seat: &mut ReplaySeat,
+    thread: u32,
+    ops: &[Op],
+) -> Result<Vec<u64>, NoMemory>
+    requires seat { IsSeatOf gate.now seat.old }
+    requires lane { Contains seat.old.view.lanes (thread % gate.now.terms.lanes) }
+    ensures seat { IsSeatOf gate.now seat.new }
+    ensures lanes { seat.new.view.lanes ≡ seat.old.view.lanes }
+{
+    let mut clocks = Vec::new(alloc);
+    for at in 0..ops.len() {
+        match offer_long(gate, alloc, seat, thread, ops[at]) {
+            Some(clock) => clocks.push(clock)?,
+            None => return Ok(clocks),
+        }
+    }
+    Ok(clocks)
+}
+
+/// Carries both threads of the first log, each on a thread of its own.
+fn carry_both<R: Threads>(
+    rt: &R,
+    alloc: Global,
+    gate: &ReplayGate,
+    first: &mut ReplaySeat,
+    second: &mut ReplaySeat,
+) -> (Result<Vec<u64>, NoMemory>, Result<Vec<u64>, NoMemory>)
+    requires first { IsSeatOf gate.now first.old }
+    requires second { IsSeatOf gate.now second.old }
+    requires lane { Contains first.old.view.lanes (0 % gate.now.terms.lanes) }
+    requires other_lane { Contains second.old.view.lanes (1 % gate.now.terms.lanes) }
+    ensures first { IsSeatOf gate.now first.new }
+    ensures second { IsSeatOf gate.now second.new }
+    ensures lanes { first.new.view.lanes ≡ first.old.view.lanes }
+    ensures other_lanes { second.new.view.lanes ≡ second.old.view.lanes }
+{
+    join_mut(
+        rt,
+        &mut || carry(gate, alloc, first, 0, &MAKES),
+        &mut || carry(gate, alloc, second, 1, &WORKS),
+    )
+}
+
+/// Whether these are the places of the thread among these threads, in order.
+fn are_places_of(clocks: &[u64], threads: &[u32], thread: u32) -> bool {
+    let mut seen = 0;
+    for at in 0..threads.len() {
+        if threads[at] == thread {
+            if seen == clocks.len() || clocks[seen] != at as u64 {
+                return false;
+            }
+            seen += 1;
+        }
+    }
+    seen == clocks.len()
+}
+
+/// Whether the events are the first ones of the log, and each was told to the seat of its thread alone, with its clock.
+fn is_told_once(world: &World, first: &[u64], second: &[u64]) -> bool {
+    let made = world.history().len();
+    if made > THREADS.len() {
+        return false;
+    }
+    let threads = &THREADS[..made];
+    has_threads(world, threads)
+        && are_places_of(first, threads, 0)
+        && are_places_of(second, threads, 1)
+}
+
+/// However the two threads meet, they make the log's events in its order, and all of them where neither gave up.
+fn two_threads<R: Threads>(rt: &R, alloc: Global) -> Result<bool, NoMemory> {
+    let (gate, mut first) = ReplayGate::new(alloc, program(alloc)?, log(alloc, &LOG)?, 2)?;
+    let mut second = WorldGate::split(&gate, &mut first, 1);
+    let (made, worked) = carry_both(rt, alloc, &gate, &mut first, &mut second);
+    let world = closed(gate, first, second);
+    Ok(is_told_once(&world, &made?, &worked?))
+}
+
+#[test]
+fn two_threads_at_one_gate(rt: HostRuntime) {
+    match two_threads(&rt, rt.alloc()) {
+        Ok(told) => assert!(rt; told),
         Err(NoMemory) => assert!(rt; false),
     }
 }

@@ -1,6 +1,6 @@
 use Rattle.std.proofs.Common.{rules, ◌≡◌, ◌<◌, ℕ, List, [], ◌∷◌, Contains, sym, subst, arith}
 use Rattle.replay_gate.proofs.Telling.{numbers_so}
-use Rattle.replay_gate.proofs.tests.replay_both.Goals as goal
+use Rattle.replay_gate.proofs.tests.closed.Goals as goal
 
 pub close-requires-clause-all : goal.close-requires-clause-all
 close-requires-clause-all g c = λ lane low.
