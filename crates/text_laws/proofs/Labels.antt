@@ -24,7 +24,7 @@ use Rattle.text_laws.proofs.Again.{IsAgain}
 use Rattle.text_laws.proofs.Names.{name-begins, begins-no-comment, more-no-comment}
 use Rattle.text_laws.proofs.Successes.{step, named-again}
 
-abbrev colon : List ℕ → List ℕ
+abbrev pub colon : List ℕ → List ℕ
 colon name = name ++ 58 ∷ []
 
 bytes-of : (name : List ℕ) → is_name name ≡ true → list_all is_name_byte name ≡ true
@@ -88,7 +88,7 @@ last-is-colon (b ∷ rest) = last-is-colon rest
 abbrev label_by : List ℕ → ℕ → Option (List ℕ)
 label_by bytes n = cond (nat_eq (slice_index bytes n) 58) (Some (take n bytes)) None
 
-label-is : (name : List ℕ) → label_of (colon name) ≡ Some name
+pub label-is : (name : List ℕ) → label_of (colon name) ≡ Some name
 label-is name =
     let size : length (colon name) - 1 ≡ length name = omega (arith, length-append name (58 ∷ [])) in
     ap (label_by (colon name)) size

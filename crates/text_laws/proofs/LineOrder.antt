@@ -63,14 +63,14 @@ ascend zero is_open p (b ∷ rest) =
     (λ (_ : (is_open && nat_eq b 59) ≡ true). ascend (left_of_line rest) true (along 1 p) rest)
     (λ (_ : (is_open && nat_eq b 59) ≡ false). with-some p (λ n. tokens_after (n - 1) false (along 1 p) rest) (piece_at (b ∷ rest)) (λ (m : ℕ). ascend (m - 1) false (along 1 p) rest))))
 
-tokens-ascend : (text : List ℕ) (ts : List Token) → tokens_of text ≡ Ok ts → Ascend 0 ts
+pub tokens-ascend : (text : List ℕ) (ts : List Token) → tokens_of text ≡ Ok ts → Ascend 0 ts
 unfolding tokens_of
 tokens-ascend text ts h = earlier 0 1 ts (omega arith) (subst (OfTokens (Ascend 1)) h (ascend 0 true first_place text))
 
 -- ---- lines
 
 -- lines at these numbers, in this order
-abbrev Between : ℕ → ℕ → List PlainLine → Type 0
+abbrev pub Between : ℕ → ℕ → List PlainLine → Type 0
 Between n last [] = n ≤ last
 Between n last (line ∷ lines) = (n ≤ line.number) × Between line.number last lines
 
@@ -85,7 +85,7 @@ one-filled m n last (w ∷ ws) lines le h = (le, h)
 abbrev last_of : ℕ → List Token → ℕ
 last_of n tokens = fold (λ m (t : Token). t.line) n tokens
 
-lines-between : (text : List ℕ) (n : ℕ) (words : List Lexeme) (ts : List Token) → Ascend n ts → Between n (last_of n ts) (lines_after text words ts)
+pub lines-between : (text : List ℕ) (n : ℕ) (words : List Lexeme) (ts : List Token) → Ascend n ts → Between n (last_of n ts) (lines_after text words ts)
 unfolding lines_after
 lines-between text n words [] h = omega arith
 lines-between text n words (t ∷ ts) h = by_word (λ (ws : List Lexeme). lines-between text t.line ws ts h.1) (lexeme_of text t)

@@ -56,12 +56,12 @@ front-first (x ∷ xs) ys h = refl
 dark-feed : (b : ℕ) → is_white b ≡ false → b ≡ 10 → ⊥
 dark-feed b h e = grind (arith, nat_tests)
 
-token-bytes : (text : List ℕ) (o : ℕ) (word behind : List ℕ) → drop o text ≡ word ++ behind → slice_of text o (o + length word) ≡ word
+pub token-bytes : (text : List ℕ) (o : ℕ) (word behind : List ℕ) → drop o text ≡ word ++ behind → slice_of text o (o + length word) ≡ word
 token-bytes text o word behind e =
     let size : o + length word - o ≡ length word = omega arith in
     ap (λ (n : ℕ). take n (drop o text)) size ∙ ap (take (length word)) e ∙ take-append_seam word behind
 
-token-behind : (text : List ℕ) (o : ℕ) (word behind : List ℕ) → drop o text ≡ word ++ behind → drop (o + length word) text ≡ behind
+pub token-behind : (text : List ℕ) (o : ℕ) (word behind : List ℕ) → drop o text ≡ word ++ behind → drop (o + length word) text ≡ behind
 token-behind text o word behind e = sym (drop-drop (length word) o text) ∙ ap (drop (length word)) e ∙ drop-append_seam word behind
 
 abbrev piece : Lexeme → Piece

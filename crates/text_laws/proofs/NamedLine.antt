@@ -53,7 +53,7 @@ read-line : (last : ℕ) (s : PlainState) (line : PlainLine) (lines : List Plain
 unfolding forms_after
 read-line last s line lines = refl
 
-faults-line : (last : ℕ) (s : PlainState) (line : PlainLine) (lines : List PlainLine) → faults_behind last s (line ∷ lines) ≡ fault_of line.number (form_among s line lines) ++ faults_behind last (begun_after s (form_alone line)) lines
+pub faults-line : (last : ℕ) (s : PlainState) (line : PlainLine) (lines : List PlainLine) → faults_behind last s (line ∷ lines) ≡ fault_of line.number (form_among s line lines) ++ faults_behind last (begun_after s (form_alone line)) lines
 unfolding faults_behind
 faults-line last s line lines = refl
 

@@ -37,7 +37,7 @@ piece kind n = record { kind = kind; length = n }
 not-quote : (b : ℕ) → b ≢ 34 → nat_eq b 34 ≡ false
 not-quote b h = grind (arith, nat_tests)
 
-word-piece : (word behind : List ℕ) (kind : TokenKind) → list_any is_white word ≡ false → kind_of_word word ≡ Ok kind → BeginsNoString word → BeginsWhite behind → piece_at (word ++ behind) ≡ Ok (piece kind (length word))
+pub word-piece : (word behind : List ℕ) (kind : TokenKind) → list_any is_white word ≡ false → kind_of_word word ≡ Ok kind → BeginsNoString word → BeginsWhite behind → piece_at (word ++ behind) ≡ Ok (piece kind (length word))
 word-piece [] behind kind dark is begins white = absurd begins
 word-piece (b ∷ word) behind kind dark is begins white =
     let same : word_at (b ∷ word ++ behind) ≡ b ∷ word = word-again (b ∷ word) behind dark white in

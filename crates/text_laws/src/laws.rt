@@ -5,17 +5,32 @@ ghost use Rattle.jasmin_text.specs.declared.token.Token.{Token};
 ghost use Rattle.jasmin_text.specs.Numbers.{number_of};
 ghost use Rattle.jasmin_text.specs.Pieces.{string_after};
 ghost use Rattle.jasmin_text.specs.Texts.{tokens_of};
+ghost use Rattle.jasmin_reader.specs.declared.fault.ReadKind.{ReadKind};
 ghost use Rattle.jasmin_reader.specs.declared.fault.Refusal.{Refusal};
+ghost use Rattle.jasmin_reader.specs.declared.form.Form.{Form};
 ghost use Rattle.jasmin_reader.specs.declared.lexeme.Lexeme.{Lexeme};
 ghost use Rattle.jasmin_reader.specs.Assembly.{classes_of};
 ghost use Rattle.jasmin_reader.specs.Canonical.{quoted, canonical};
-ghost use Rattle.jasmin_reader.specs.Lexemes.{lines_after};
+ghost use Rattle.jasmin_reader.specs.Forms.{form_of};
+ghost use Rattle.jasmin_reader.specs.Grammar.{form_among};
+ghost use Rattle.jasmin_reader.specs.Lexemes.{PlainLine, lines_after};
 ghost use Rattle.jasmin_reader.specs.Plain.{PlainClassText};
 ghost use Rattle.jasmin_reader.specs.Reading.{reading};
 ghost use Rattle.text_laws.specs.LineFaults.{IsFirst, forms_alone, line_faults};
+ghost use Rattle.text_laws.specs.LineRules.{HasFault, IsLeast, HasNone, IsFaultOfText, IsLeastOfText, state_after};
 ghost use Rattle.text_laws.specs.Sizes.{IsSmall, is_quotable};
 ghost use Rattle.text_laws.specs.Spelled.{spelled, IsSpellableLine};
+ghost use Rattle.text_laws.specs.Tokens.{AreTokens};
+ghost use Rattle.text_laws.specs.WordRules.{IsSpoiled};
 ghost use Rattle.text_laws.specs.Alike.{HasLines, AreAlike, ReadsAlike};
+
+/// What is read from a text is the one list of tokens that it has by the rules on its bytes, and where nothing can be read
+/// there is no such list. Only the empty text has none.
+pub fn tokens_follow_the_bytes()
+    ensures read { (text : List ℕ) (tokens : List Token) → (tokens_of text ≡ Ok tokens) ↔ AreTokens text tokens }
+    ensures one { (text : List ℕ) (tokens : List Token) (others : List Token) → AreTokens text tokens → AreTokens text others → tokens ≡ others }
+    ensures none { (text : List ℕ) → AreTokens text [] ↔ (text ≡ []) }
+{}
 
 /// A number of 32 bits is read from what is written of it.
 pub fn numbers_read_back()
@@ -48,4 +63,16 @@ pub fn named_line_is_first()
     ensures refused { (text : List ℕ) (tokens : List Token) (f : Refusal) → (reading text tokens ≡ Err f) ↔ IsFirst (line_faults text tokens) f }
     ensures before { (text : List ℕ) (tokens : List Token) (f : Refusal) (g : Refusal) → tokens_of text ≡ Ok tokens → reading text tokens ≡ Err f → Contains (line_faults text tokens) g → f.line ≤ g.line }
     ensures read { (text : List ℕ) (tokens : List Token) (classes : List PlainClassText) → (reading text tokens ≡ Ok classes) ↔ ((line_faults text tokens ≡ []) × (classes ≡ classes_of (forms_alone (lines_after text [] tokens)))) }
+{}
+
+/// The fault of a line, by itself and among others, is the least of all that it has by the rules, and it has its form where it
+/// has none. Reading names the first line that has a fault, with the least of that line; a text without faults is read.
+pub fn named_fault_is_least()
+    ensures alone { (n : ℕ) (words : List Lexeme) (kind : ReadKind) → (form_of n words ≡ Err kind) ↔ IsLeast (IsSpoiled words) kind }
+    ensures said { (n : ℕ) (words : List Lexeme) → ((f : Form) × (form_of n words ≡ Ok f)) ↔ HasNone (IsSpoiled words) }
+    ensures line { (before : List Form) (line : PlainLine) (behind : List PlainLine) (kind : ReadKind) → (form_among (state_after before) line behind ≡ Err kind) ↔ IsLeast (HasFault before line behind) kind }
+    ensures formed { (before : List Form) (line : PlainLine) (behind : List PlainLine) → ((f : Form) × (form_among (state_after before) line behind ≡ Ok f)) ↔ HasNone (HasFault before line behind) }
+    ensures refused { (text : List ℕ) (tokens : List Token) (f : Refusal) → (reading text tokens ≡ Err f) ↔ IsFaultOfText text tokens f }
+    ensures least { (text : List ℕ) (tokens : List Token) (f : Refusal) → tokens_of text ≡ Ok tokens → (reading text tokens ≡ Err f) ↔ IsLeastOfText text tokens f }
+    ensures read { (text : List ℕ) (tokens : List Token) (classes : List PlainClassText) → (reading text tokens ≡ Ok classes) ↔ (((f : Refusal) → IsFaultOfText text tokens f → ⊥) × (classes ≡ classes_of (forms_alone (lines_after text [] tokens)))) }
 {}
