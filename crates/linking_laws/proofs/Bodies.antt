@@ -67,7 +67,7 @@ methods_none names thread_run texts (m ∷ ms) found e =
     (here.0, (here.1, rest.1))
 
 -- and of all classes
-bodies_none : (names : Names) (thread_run : ℕ) (texts : Rows) (cs : List PlainClassText) (found : Option Refusal) → bodies_judged names thread_run texts cs found ≡ None → (found ≡ None) × AllByRecursion (λ (c : PlainClassText). AllByRecursion IsShort c.methods) cs
+pub bodies_none : (names : Names) (thread_run : ℕ) (texts : Rows) (cs : List PlainClassText) (found : Option Refusal) → bodies_judged names thread_run texts cs found ≡ None → (found ≡ None) × AllByRecursion (λ (c : PlainClassText). AllByRecursion IsShort c.methods) cs
 unfolding bodies_judged
 bodies_none names thread_run texts [] found e = (e, tt)
 bodies_none names thread_run texts (c ∷ cs) found e =

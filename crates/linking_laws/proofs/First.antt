@@ -67,7 +67,7 @@ same_fault : (f g : Refusal) → f.kind ≡ g.kind → f.line ≡ g.line → f �
 same_fault f g e h = ap (λ (k : LinkKind). record { kind = k; line = f.line }) e ∙ ap (λ (l : ℕ). record { kind = g.kind; line = l }) h
 
 -- faults of which neither comes before the other are the same
-before_same : (f g : Refusal) → is_before f g ≡ false → is_before g f ≡ false → f ≡ g
+pub before_same : (f g : Refusal) → is_before f g ≡ false → is_before g f ≡ false → f ≡ g
 before_same f g h i =
     let numbers : (f.line ≡ g.line) × (kind_number f.kind ≡ kind_number g.kind) = numbers_same f.line (kind_number f.kind) g.line (kind_number g.kind) h i in
     same_fault f g (sym (kind_back f.kind) ∙ ap kind_of_number numbers.1 ∙ kind_back g.kind) numbers.0

@@ -1,6 +1,6 @@
 -- What it says of declarations that nothing is found wrong with them.
 use Rattle.std.proofs.Common.{◌≡◌, ℕ, ◌<◌, ◌≤◌, Bool, true, false, List, [], ◌∷◌, Option, Some, None, refl, sym, ap, ◌∙◌, subst, arith}
-use Rattle.std.specs.Prelude.{IfSome, not, ◌||◌, if◌then◌else◌, ◌==◌, nat_le, nat_lt, length}
+use Rattle.std.specs.Prelude.{IfSome, is_some, not, ◌||◌, if◌then◌else◌, ◌==◌, nat_le, nat_lt, length}
 use Rattle.std.proofs.lemmas.Bool.{false≢true}
 use Rattle.std.proofs.lemmas.Bool.Decides.{nat_tests}
 use Rattle.jasmin_reader.specs.declared.class_text.NameAt.{NameAt}
@@ -10,6 +10,7 @@ use Rattle.class_linker.specs.declared.fault.LinkKind.TheVariants as kinds
 use Rattle.class_linker.specs.declared.fault.Refusal.{Refusal}
 use Rattle.class_linker.specs.declared.names.Counts.{Counts}
 use Rattle.class_linker.specs.declared.names.Names.{Names}
+use Rattle.built_in_classes.specs.Classes.{built_in_number}
 use Rattle.class_linker.specs.Faults.{is_before, noted, only_if}
 use Rattle.class_linker.specs.Index.{value_of}
 use Rattle.class_linker.specs.Descriptors.{PlainSignature, method_signature, in_signature, is_unknown}
@@ -150,6 +151,7 @@ pub record FineClass (names : Names) (number : ℕ) (c : PlainClassText) : Type 
   pub named : is_named c ≡ true
   pub few : number < 288
   pub has_number : value_of c.name names.classes ≡ Some number
+  pub user : is_some (built_in_number c.name) ≡ false
   pub run : is_runnable c ≡ true → has_run c ≡ true
 
 -- a class with `.implements` that is let through has a run
@@ -162,12 +164,12 @@ implements_fine runs (x ∷ xs) found e =
     (here.0, λ h. not_false runs (only_none _ _ _ here.1).0)
 
 -- a class with a name that is let through has its own number
-named_fine : (names : Names) (c : PlainClassText) (n : Counts) (b : Bool) → is_named c ≡ b → (if b then named_fault names c n else Some kinds.OutOfProfile) ≡ None → (is_named c ≡ true) × (n.classes < 288) × (value_of c.name names.classes ≡ Some n.classes)
+named_fine : (names : Names) (c : PlainClassText) (n : Counts) (b : Bool) → is_named c ≡ b → (if b then named_fault names c n else Some kinds.OutOfProfile) ≡ None → (is_named c ≡ true) × (n.classes < 288) × (value_of c.name names.classes ≡ Some n.classes) × (is_some (built_in_number c.name) ≡ false)
 named_fine names c n false is e = absurd (nothing _ e)
 named_fine names c n true is e =
     let twice : _ = only_none _ _ _ e in
     let many : _ = only_none _ _ _ twice.1 in
-    (is, fewer_than 288 n.classes many.0, this_one n.classes (value_of c.name names.classes) (not_false (is_this n.classes (value_of c.name names.classes)) (neither _ _ twice.0).0))
+    (is, fewer_than 288 n.classes many.0, this_one n.classes (value_of c.name names.classes) (not_false (is_this n.classes (value_of c.name names.classes)) (neither _ _ twice.0).0), (neither _ _ twice.0).1)
 
 -- what is let through of a class, before its members
 lines_fine : (names : Names) (c : PlainClassText) (n : Counts) (found : Option Refusal) → lines_judged names c n found ≡ None → (found ≡ None) × FineClass names n.classes c
@@ -176,7 +178,7 @@ lines_fine names c n found e =
     let super : _ = noted_none (noted found c.line (class_fault names c n)) c.super_line (super_fault c) implemented.0 in
     let first : _ = noted_none found c.line (class_fault names c n) super.0 in
     let named : _ = named_fine names c n (is_named c) refl first.1 in
-    (first.0, record { named = named.0; few = named.1; has_number = named.2; run = implemented.1 })
+    (first.0, record { named = named.0; few = named.1; has_number = named.2; user = named.3; run = implemented.1 })
 
 -- the counts and the first fault after a class's fields
 abbrev pub behind_fields : Names → PlainClassText → Counts → Option Refusal → Counts × Option Refusal

@@ -22,12 +22,12 @@ tails : {A : Type 0} (x y : A) (xs ys : List A) → x ∷ xs ≡ y ∷ ys → xs
 tails x y xs ys e = cc
 
 -- a byte stands where it stands
-not_inside : (b : ℕ) (xs ys : List ℕ) → Without b (xs ++ b ∷ ys) → ⊥
+pub not_inside : (b : ℕ) (xs ys : List ℕ) → Without b (xs ++ b ∷ ys) → ⊥
 not_inside b [] ys h = h.0 refl
 not_inside b (x ∷ xs) ys h = not_inside b xs ys h.1
 
 -- lists that are parted by a byte that comes in neither front have the same parts
-parted_first : (b : ℕ) (xs ys us vs : List ℕ) → Without b xs → Without b ys → xs ++ b ∷ us ≡ ys ++ b ∷ vs → (xs ≡ ys) × (us ≡ vs)
+pub parted_first : (b : ℕ) (xs ys us vs : List ℕ) → Without b xs → Without b ys → xs ++ b ∷ us ≡ ys ++ b ∷ vs → (xs ≡ ys) × (us ≡ vs)
 parted_first b [] [] us vs h k e = (refl, tails b b us vs e)
 parted_first b [] (y ∷ ys) us vs h k e = absurd (k.0 (sym (heads b y us (ys ++ b ∷ vs) e)))
 parted_first b (x ∷ xs) [] us vs h k e = absurd (h.0 (heads x b (xs ++ b ∷ us) vs e))
@@ -38,7 +38,7 @@ parted_first b (x ∷ xs) (y ∷ ys) us vs h k e =
     (cc, rest.1)
 
 -- the same where the byte comes in neither rest
-parted_last : (b : ℕ) (xs ys us vs : List ℕ) → Without b us → Without b vs → xs ++ b ∷ us ≡ ys ++ b ∷ vs → (xs ≡ ys) × (us ≡ vs)
+pub parted_last : (b : ℕ) (xs ys us vs : List ℕ) → Without b us → Without b vs → xs ++ b ∷ us ≡ ys ++ b ∷ vs → (xs ≡ ys) × (us ≡ vs)
 parted_last b [] [] us vs h k e = (refl, tails b b us vs e)
 parted_last b [] (y ∷ ys) us vs h k e = absurd (not_inside b ys vs (subst (Without b) (tails b y us (ys ++ b ∷ vs) e) h))
 parted_last b (x ∷ xs) [] us vs h k e = absurd (not_inside b xs us (subst (Without b) (sym (tails x b (xs ++ b ∷ us) vs e)) k))
@@ -49,14 +49,14 @@ parted_last b (x ∷ xs) (y ∷ ys) us vs h k e =
     (cc, rest.1)
 
 -- a byte that is in neither of two lists isn't in both together
-without_both : (b : ℕ) (xs ys : List ℕ) → Without b xs → Without b ys → Without b (xs ++ ys)
+pub without_both : (b : ℕ) (xs ys : List ℕ) → Without b xs → Without b ys → Without b (xs ++ ys)
 without_both b [] ys h k = k
 without_both b (x ∷ xs) ys h k = (h.0, without_both b xs ys h.1 k)
 
 -- ---- bytes of names
 
 -- what a test refuses isn't among bytes that all pass it
-tested : (test : ℕ → Bool) (b : ℕ) (xs : List ℕ) → test b ≡ false → list_all test xs ≡ true → Without b xs
+pub tested : (test : ℕ → Bool) (b : ℕ) (xs : List ℕ) → test b ≡ false → list_all test xs ≡ true → Without b xs
 tested test b [] refuses h = tt
 tested test b (x ∷ xs) refuses h =
     let parts : (test x ≡ true) × (list_all test xs ≡ true) = both (test x) (list_all test xs) h in
@@ -73,7 +73,7 @@ class_without_bracket (b ∷ rest) h =
     filled n e = absurd (omega (arith, same (suc n) 0 e))
 
 -- words that are spelled alike
-same_word : (xs ys : List ℕ) → bytes_eq xs ys ≡ true → xs ≡ ys
+pub same_word : (xs ys : List ℕ) → bytes_eq xs ys ≡ true → xs ≡ ys
 same_word xs ys e = (bytes_eq-Decides xs ys).0 e
 
 -- a method's name has no slash and no bracket

@@ -112,7 +112,7 @@ program_is_ok : {A : Type 0} (x : A) (r : Result A Refusal) → r ≡ Ok x → I
 program_is_ok x r e = subst IsOk (sym e) refl
 
 -- faults are there or not
-empty_or : (faults : List Refusal) → (faults ≡ []) ⊎ (faults ≢ [])
+pub empty_or : (faults : List Refusal) → (faults ≡ []) ⊎ (faults ≢ [])
 empty_or [] = inl refl
 empty_or (x ∷ xs) = inr (λ e. cc)
 

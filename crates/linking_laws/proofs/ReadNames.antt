@@ -22,7 +22,8 @@ use Rattle.jasmin_reader.specs.Forms.{unlabelled_form, labelled_form, label_of, 
 use Rattle.jasmin_reader.specs.Grammar.{PlainState, nothing_begun, next_state, lacks_super, is_end, may_stand_first, misplaced, placed, form_among}
 use Rattle.jasmin_reader.specs.Assembly.{PlainParts, no_parts, with_form, parts_of, classes_of}
 use Rattle.jasmin_reader.specs.Reading.{at_line, forms_after, last_line, reading}
-use Rattle.linking_laws.specs.Named.{IsNamedMethod, AreNamed}
+use Rattle.linking_laws.specs.Named.{IsNamedMethod, AreNamed, IsWrittenLine}
+use Rattle.linking_laws.proofs.WrittenLines.{Written, instruction_written}
 
 -- ---- forms of lines
 
@@ -33,7 +34,7 @@ GoodForm (form.Interface line) = Unit {0}
 GoodForm (form.Class c) = (is_class_name c.name || length c.name == 0) ≡ true
 GoodForm (form.Super n) = Unit {0}
 GoodForm (form.Implements n) = Unit {0}
-GoodForm (form.Field f) = Unit {0}
+GoodForm (form.Field f) = is_name f.name ≡ true
 GoodForm (form.Method m) = IsNamedMethod m
 GoodForm (form.StackLimit n) = Unit {0}
 GoodForm (form.LocalsLimit n) = Unit {0}
@@ -41,7 +42,7 @@ GoodForm form.Ignored = Unit {0}
 GoodForm (form.Catch c) = Unit {0}
 GoodForm form.End = Unit {0}
 GoodForm (form.Label label) = Unit {0}
-GoodForm (form.Code l) = Unit {0}
+GoodForm (form.Code l) = IsWrittenLine l
 
 -- the same of a line that isn't refused
 abbrev pub Good : Result Form ReadKind → Type 0
@@ -147,11 +148,19 @@ source_good : (words : List Lexeme) → Good (source_form words)
 unfolding source_form
 source_good words = then_good (one words) _ (λ word is_word. tt)
 
+-- a field's name that is let through has the form of one
+field_named : (word : Lexeme) (name : List ℕ) → name_of word ≡ Ok name → is_name name ≡ true
+field_named (lexeme.Word bytes) name e =
+    let so : (is_name bytes ≡ true) × (bytes ≡ name) = named_so (is_name bytes) bytes name e in
+    subst (λ (x : List ℕ). is_name x ≡ true) so.1 so.0
+field_named (lexeme.Number n) name e = absurd (refused BadOperand name e)
+field_named (lexeme.Text text) name e = absurd (refused BadOperand name e)
+
 -- `.field`
 field_good : (line : ℕ) (words : List Lexeme) → Good (field_form line words)
 unfolding field_of
 field_good line words =
-    then_good (split_last (valued words).0) _ (λ last a. then_good (split_last last.0) _ (λ before b. then_good (field_flags before.0) _ (λ flags c. then_good (word_of last.1) _ (λ desc d. then_good (name_of before.1) _ (λ name f. tt)))))
+    then_good (split_last (valued words).0) _ (λ last a. then_good (split_last last.0) _ (λ before b. then_good (field_flags before.0) _ (λ flags c. then_good (word_of last.1) _ (λ desc d. then_good (name_of before.1) _ (λ name f. field_named before.1 name f)))))
 
 -- `.limit`
 limit_good : (words : List Lexeme) → Good (limit_form words)
@@ -223,13 +232,13 @@ directive_good line first words = by (bytes_eq first (codes ".source") || bytes_
 -- an instruction
 unlabelled_good : (line : ℕ) (words : List Lexeme) → Good (unlabelled_form line words)
 unfolding unlabelled_form
-unlabelled_good line words = then_good (instruction words) _ (λ said is_said. tt)
+unlabelled_good line words = then_good (instruction words) _ (λ said is_said. subst Written is_said (instruction_written words))
 
 -- a label, alone or before an instruction
 labelled_good : (line : ℕ) (label : List ℕ) (words : List Lexeme) → Good (labelled_form line label words)
 unfolding labelled_form
 labelled_good line label [] = then_good (named (is_name label) label) _ (λ name is_name. tt)
-labelled_good line label (word ∷ words) = then_good (instruction (word ∷ words)) _ (λ said is_said. then_good (named (is_name label) label) _ (λ name is_name. tt))
+labelled_good line label (word ∷ words) = then_good (instruction (word ∷ words)) _ (λ said is_said. then_good (named (is_name label) label) _ (λ name is_name. subst Written is_said (instruction_written (word ∷ words))))
 
 -- the lines of a body
 coded_good : (line : ℕ) (o : Option (List ℕ)) (words all : List Lexeme) → Good (coded line o words all)
@@ -274,7 +283,7 @@ more_good line (Ok f) next h k = by (next f) (k f)
     by (Err e) all = tt
 
 -- all lines
-forms_good : (last : ℕ) (s : PlainState) (lines : List PlainLine) → GoodForms (forms_after last s lines)
+pub forms_good : (last : ℕ) (s : PlainState) (lines : List PlainLine) → GoodForms (forms_after last s lines)
 unfolding forms_after
 forms_good last s [] = by (lacks_super s)
   where

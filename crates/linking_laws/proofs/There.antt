@@ -1,7 +1,6 @@
 -- What has a number is there: classes, text constants, and Thread's own run.
 use Rattle.std.proofs.Common.{◌≡◌, ℕ, ◌+◌, ◌-◌, ◌<◌, ◌≤◌, Bool, true, false, List, [], ◌∷◌, ◌++◌, Option, Some, None, refl, sym, ap, ◌∙◌, subst, arith, ⊎_elim, length-append}
 use Rattle.std.specs.Prelude.{length, nat_le, nat_lt, if◌then◌else◌, is_some, bytes_eq, slice_get}
-use Rattle.std.specs.List.{list_all}
 use Rattle.std.proofs.lemmas.Bool.Decides.{nat_tests}
 use Rattle.std.proofs.lemmas.List.{length-map}
 use Rattle.vm_model.specs.Program.{PlainMethod, PlainProgram, class_at}
@@ -20,7 +19,7 @@ use Rattle.class_linker.specs.Bodies.{PlainTexts, no_texts, added_text, with_tex
 use Rattle.class_linker.specs.Programs.{linked_class, methods_of, thread_method}
 use Rattle.class_linker.specs.Linking.{program_of}
 use Rattle.shape_laws.specs.Linked.{is_run_method, has_thread_run}
-use Rattle.shape_laws.proofs.Tests.{both, on_left, on_right, below_true, some_there}
+use Rattle.shape_laws.proofs.Tests.{on_left, on_right, below_true, some_there}
 use Rattle.linking_laws.proofs.Codes.{Numbers}
 use Rattle.linking_laws.proofs.Judged.{class_keeps_number}
 use Rattle.linking_laws.proofs.Numbered.{none_some, some_same, found_row, there_last, behind_class}
@@ -83,7 +82,7 @@ methods_keep_classes class [] n names = refl
 methods_keep_classes class (m ∷ ms) n names = methods_keep_classes class ms (method_counted n) (with_method class m n names)
 
 -- so a class adds its own name at most
-whole_classes : (c : PlainClassText) (n : Counts) (names : Names) → (with_whole c n names).1.classes ≡ row_if (is_named c) c.name n.classes names.classes
+pub whole_classes : (c : PlainClassText) (n : Counts) (names : Names) → (with_whole c n names).1.classes ≡ row_if (is_named c) c.name n.classes names.classes
 whole_classes c n names =
     methods_keep_classes c.name c.methods (with_fields c.name c.fields (class_begun c n) (with_class c n names)).0 (with_fields c.name c.fields (class_begun c n) (with_class c n names)).1
     ∙ fields_keep_classes c.name c.fields (class_begun c n) (with_class c n names)
@@ -117,7 +116,7 @@ classes_within high (c ∷ cs) n names above below all = classes_within high cs 
     behind = subst (ClassesWithin high) (sym (whole_classes c n names)) (row_within high (is_named c) c.name n.classes names.classes above (omega (arith, below)) all)
 
 -- the classes of a text
-names_within : (classes : List PlainClassText) → ClassesWithin (32 + length classes) (names_of classes).1.classes
+pub names_within : (classes : List PlainClassText) → ClassesWithin (32 + length classes) (names_of classes).1.classes
 unfolding names_of
 names_within classes = classes_within (32 + length classes) classes no_counts no_names (omega arith) (omega arith) (λ key k e. absurd (none_some k e))
 

@@ -1,3 +1,11 @@
 pub mod Named
 pub mod Limits
 pub mod LinkFaults
+pub mod Types
+pub mod Rules
+pub mod BodyRules
+pub mod FirstFault
+pub mod Declared
+pub mod Instructions
+pub mod Links
+pub mod Outside

@@ -4,6 +4,8 @@
 mod laws;
 
 pub use laws::{
-    linked_methods_keep_limits, linked_program_is_small, linked_program_is_well_linked,
-    linked_program_names_what_is_there, named_fault_is_first, read_classes_are_named,
+    classes_have_one_program, instructions_out_of_profile, linked_methods_keep_limits,
+    linked_program_is_of_its_classes, linked_program_is_small, linked_program_is_well_linked,
+    linked_program_keeps_limits, linked_program_names_what_is_there, linking_is_by_the_rules,
+    named_fault_is_first, read_classes_are_named,
 };

@@ -1,0 +1,51 @@
+-- A linked program keeps the limits of a program as a whole.
+use Rattle.std.proofs.Common.{◌≡◌, ℕ, ◌≤◌, List, Ok, subst, arith}
+use Rattle.std.specs.Prelude.{length, map}
+use Rattle.std.proofs.lemmas.List.{length-map}
+use Rattle.vm_model.specs.Program.{PlainProgram}
+use Rattle.jasmin_reader.specs.Plain.{PlainClassText}
+use Rattle.class_linker.specs.declared.names.Names.{Names}
+use Rattle.class_linker.specs.Names.{names_of, no_counts, no_names}
+use Rattle.class_linker.specs.Bodies.{PlainTexts, texts_of}
+use Rattle.class_linker.specs.Programs.{linked_class, slots_of}
+use Rattle.class_linker.specs.Linking.{linking}
+use Rattle.linking_laws.specs.Limits.{HasFewClasses, HasFewMethods, HasFewStatics, HasFewFields, HasShortTexts}
+use Rattle.linking_laws.proofs.Counted.{statics_counted, classes_few, classes_counted}
+use Rattle.linking_laws.proofs.LinkedLines.{bodies_given, texts_short}
+use Rattle.linking_laws.proofs.Linkings.{Links, given, linked_is_few}
+use Rattle.std.proofs.Common.{None}
+
+-- all limits of a program as a whole
+pub record KeepsAll (p : PlainProgram) : Type 0 where
+  pub classes : HasFewClasses p
+  pub methods : HasFewMethods p
+  pub statics : HasFewStatics p
+  pub fields : HasFewFields p
+  pub texts : HasShortTexts p
+
+pub linked_keeps_all : (classes : List PlainClassText) (p : PlainProgram) → linking classes ≡ Ok p → KeepsAll p
+linked_keeps_all classes p e = record {
+  classes = subst HasFewClasses g.is few_classes;
+  methods = (linked_is_few classes p e).few;
+  statics = subst HasFewStatics g.is few_statics;
+  fields = subst HasFewFields g.is (classes_few names no_names classes no_counts None g.declared);
+  texts = subst HasShortTexts g.is (texts_short names thread_run texts.rows classes (bodies_given names thread_run texts.rows classes g.bodies));
+}
+  where
+    names : Names
+    names = (names_of classes).1
+
+    thread_run : ℕ
+    thread_run = (names_of classes).0.methods
+
+    texts : PlainTexts
+    texts = texts_of classes
+
+    g : Links classes p
+    g = given classes p e
+
+    few_classes : length (map (linked_class names) classes) ≤ 256
+    few_classes = omega (arith, length-map classes (linked_class names), classes_counted names no_names classes no_counts None g.declared (omega arith))
+
+    few_statics : length (slots_of names 32 classes) ≤ 1024
+    few_statics = omega (arith, statics_counted names no_names classes no_counts None g.declared (omega arith))
