@@ -1,9 +1,9 @@
 -- What one of several calls that only read found, of the whole.
-use Rattle.std.proofs.Common.{◌≡◌, ◌≤◌, ℕ, List, Result, Ok, Err, subst, ◌∙◌, IsTrue, inl, inr, ⊎_elim, arith}
+use Rattle.std.proofs.Common.{◌≡◌, ℕ, List, Result, Ok, Err, subst, sym, ap, ◌∙◌, IsTrue, inl, inr}
 use Rattle.std.specs.Prelude.{IfErr, IfOk}
 use Rattle.vm_model.specs.Program.{PlainProgram}
 use Rattle.schedule_log.specs.Logs.{PlainLog}
-use Rattle.tool_io.specs.Outside.{HasRisen}
+use Rattle.tool_io.specs.Outside.{raised_count}
 use Rattle.command_line.specs.Requests.{Isolate}
 use Rattle.dejavu_tool.specs.declared.halt.Halt.{Halt}
 use Rattle.dejavu_tool.specs.declared.halt.Halt.TheVariants as halt
@@ -29,27 +29,24 @@ log_earlier b c name log k l = record { bytes = l.bytes; loaded = λ t. k.before
 pub schedule_earlier : (b c : FolderCall) (events : ℕ) (name times : List ℕ) → Earlier b c → LoadsSchedule b events name times → LoadsSchedule c events name times
 schedule_earlier b c events name times k l = record { bytes = l.bytes; loaded = λ t. k.before name ∙ l.loaded (subst IsTrue k.told t); spelled = l.spelled }
 
-risen_earlier : (a b m n : ℕ) → a ≤ b → n ≡ m → HasRisen b m → HasRisen a n
-risen_earlier a b m n le same h = ⊎_elim (λ lt. inl (omega (arith, le, same, lt))) (λ most. inr (same ∙ most)) h
+file_earlier : (b c : FolderCall) (name : List ℕ) (st : Status) (line : List ℕ) → Earlier b c → c.loads_before ≡ b.loads_before → c.loads_after ≡ b.loads_after → FileStops b name st line → FileStops c name st line
+file_earlier b c name status.Absent line k count same h = (λ t. k.before name ∙ h.0 (subst IsTrue k.told t), h.1)
+file_earlier b c name status.ReadFault line k count same h = (same ∙ h.0 ∙ ap raised_count (sym count), h.1)
+file_earlier b c name _ line k count same h = absurd h
 
-file_earlier : (b c : FolderCall) (name : List ℕ) (st : Status) (line : List ℕ) → Earlier b c → c.loads_before ≤ b.loads_before → c.loads_after ≡ b.loads_after → FileStops b name st line → FileStops c name st line
-file_earlier b c name status.Absent line k le same h = (λ t. k.before name ∙ h.0 (subst IsTrue k.told t), h.1)
-file_earlier b c name status.ReadFault line k le same h = (risen_earlier c.loads_before b.loads_before b.loads_after c.loads_after le same h.0, h.1)
-file_earlier b c name _ line k le same h = absurd h
-
-pub times_stop_earlier : (b c : FolderCall) (events : ℕ) (name : List ℕ) (st : Status) (line : List ℕ) → Earlier b c → c.loads_before ≤ b.loads_before → c.loads_after ≡ b.loads_after → ScheduleStops b events name st line → ScheduleStops c events name st line
-times_stop_earlier b c events name status.ScheduleRefused line k le same h = record { bytes = h.bytes; loaded = λ t. k.before name ∙ h.loaded (subst IsTrue k.told t); refuses = h.refuses }
-times_stop_earlier b c events name st line k le same h = file_earlier b c name st line k le same h
+pub times_stop_earlier : (b c : FolderCall) (events : ℕ) (name : List ℕ) (st : Status) (line : List ℕ) → Earlier b c → c.loads_before ≡ b.loads_before → c.loads_after ≡ b.loads_after → ScheduleStops b events name st line → ScheduleStops c events name st line
+times_stop_earlier b c events name status.ScheduleRefused line k count same h = record { bytes = h.bytes; loaded = λ t. k.before name ∙ h.loaded (subst IsTrue k.told t); refuses = h.refuses }
+times_stop_earlier b c events name st line k count same h = file_earlier b c name st line k count same h
 
 -- ---- an isolation
 
 -- the second schedule isn't loaded
-pub fail_halts : (b c : FolderCall) (program pass fail : List ℕ) (tests workers events : ℕ) (p : PlainProgram) (times : List ℕ) (h : Halt) → Earlier b c → c.loads_before ≤ b.loads_before → c.loads_after ≡ b.loads_after
+pub fail_halts : (b c : FolderCall) (program pass fail : List ℕ) (tests workers events : ℕ) (p : PlainProgram) (times : List ℕ) (h : Halt) → Earlier b c → c.loads_before ≡ b.loads_before → c.loads_after ≡ b.loads_after
     → IsUntouched c → LoadsProgram c program p → LoadsSchedule c events pass times → HaltsBy (ScheduleStops b events fail) h → Halts (Isolate program pass fail tests workers events) c h
-fail_halts b c program pass fail tests workers events p times (halt.Told st line) k le same u l s h =
-    (u, inr (inr (inl (record { of_program = p; loads = l; times = times; loads_schedule = s; stop = times_stop_earlier b c events fail st line.items k le same h }))))
-fail_halts b c program pass fail tests workers events p times halt.Memory k le same u l s h = u
-fail_halts b c program pass fail tests workers events p times halt.Store k le same u l s h = absurd h
+fail_halts b c program pass fail tests workers events p times (halt.Told st line) k count same u l s h =
+    (u, inr (inr (inl (record { of_program = p; loads = l; times = times; loads_schedule = s; stop = times_stop_earlier b c events fail st line.items k count same h }))))
+fail_halts b c program pass fail tests workers events p times halt.Memory k count same u l s h = u
+fail_halts b c program pass fail tests workers events p times halt.Store k count same u l s h = absurd h
 
 -- nothing is isolated
 pub isolate_halts : (c : FolderCall) (program pass fail : List ℕ) (tests workers events : ℕ) (p : PlainProgram) (passing failing : List ℕ) (h : Halt)

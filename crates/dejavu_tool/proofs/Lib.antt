@@ -1,9 +1,11 @@
 pub mod Composing
+pub mod Counting
 pub mod Answering
 pub mod Beginning
 pub mod Completing
 pub mod Repeating
 pub mod Linked
+pub mod FirstValues
 pub mod Telling
 pub mod Earlier
 pub mod AfterLog

@@ -15,6 +15,7 @@ use Rattle.jasmin_reader.specs.Plain.{PlainClassText}
 use Rattle.jasmin_reader.specs.Reading.{reading}
 use Rattle.class_linker.specs.declared.fault.Refusal as link
 use Rattle.class_linker.specs.Linking.{linking}
+use Rattle.linking_laws.proofs.KeptLimits.{KeepsAll, linked_keeps_all}
 use Rattle.linking_laws.proofs.Linkings.{linked_is_small}
 use Rattle.linking_laws.proofs.ReadNames.{read_are_named}
 use Rattle.linking_laws.proofs.WellLinked.{linked_is_well_linked}
@@ -23,11 +24,11 @@ use Rattle.dejavu_tool.specs.declared.programs.ProgramFault.TheVariants as fault
 use Rattle.dejavu_tool.specs.Accepting.{by_link, by_classes, by_tokens, linked}
 
 -- the tokens and the classes of a text that is linked
-record Steps (text : List ℕ) (p : PlainProgram) : Type 0 where
-  tokens : List Token
-  classes : List PlainClassText
-  reads : reading text tokens ≡ Ok classes
-  links : linking classes ≡ Ok p
+pub record Steps (text : List ℕ) (p : PlainProgram) : Type 0 where
+  pub tokens : List Token
+  pub classes : List PlainClassText
+  pub reads : reading text tokens ≡ Ok classes
+  pub links : linking classes ≡ Ok p
 
 of_link : (r : Result PlainProgram link.Refusal) (p : PlainProgram) → by_link r ≡ Ok p → r ≡ Ok p
 of_link (Ok q) p e = let same : q ≡ p = cc in rw same refl
@@ -41,7 +42,7 @@ of_tokens : (text : List ℕ) (r : Result (List Token) Spoiled) (p : PlainProgra
 of_tokens text (Ok tokens) p e = of_classes text tokens (reading text tokens) p refl e
 of_tokens text (Err s) p e = cc
 
-steps_of : (text : List ℕ) (p : PlainProgram) → linked text ≡ Ok p → Steps text p
+pub steps_of : (text : List ℕ) (p : PlainProgram) → linked text ≡ Ok p → Steps text p
 unfolding linked
 steps_of text p e = by (nat_lt 1048576 (length text)) e
   where
@@ -57,6 +58,9 @@ is_well_linked text p e = let s = steps_of text p e in linked_is_well_linked s.c
 
 pub names_what_is_there : (text : List ℕ) (p : PlainProgram) → linked text ≡ Ok p → NamesWhatIsThere p
 names_what_is_there text p e = let s = steps_of text p e in linked_names_there s.classes p s.links
+
+pub keeps_limits : (text : List ℕ) (p : PlainProgram) → linked text ≡ Ok p → KeepsAll p
+keeps_limits text p e = let s = steps_of text p e in linked_keeps_all s.classes p s.links
 
 -- a verified program of a text makes an event
 pub begins : (text : List ℕ) (p : PlainProgram) (budget : ℕ) → linked text ≡ Ok p → IsVerified p → 1 ≤ budget → end_of p (start_machine p) budget ≡ None

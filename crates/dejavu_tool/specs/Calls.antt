@@ -1,6 +1,6 @@
 -- What a command was given and left: in the folder, and in the sink.
 use Rattle.std.specs.Prelude.{◌≡◌, ℕ, Bool, List, ◌++◌, Option, Some, None, IsTrue}
-use Rattle.tool_io.specs.Outside.{HasRisen, SameFiles, SetsFile, TakesPrefix}
+use Rattle.tool_io.specs.Outside.{SameFiles, SetsFile, TakesPrefix, raised_count}
 
 -- whether the folder tells its files, the bytes under each name before and after, and its counts of failed loads and stores
 pub record FolderCall : Type 0 where
@@ -28,13 +28,13 @@ Loads c name bytes = IsTrue c.told → c.before name ≡ Some bytes
 abbrev pub Misses : FolderCall → List ℕ → Type 0
 Misses c name = IsTrue c.told → c.before name ≡ None
 
--- a load failed
+-- one load failed
 abbrev pub LoadFails : FolderCall → Type 0
-LoadFails c = HasRisen c.loads_before c.loads_after
+LoadFails c = c.loads_after ≡ raised_count c.loads_before
 
--- a store failed
+-- one store failed
 abbrev pub StoreFails : FolderCall → Type 0
-StoreFails c = HasRisen c.stores_before c.stores_after
+StoreFails c = c.stores_after ≡ raised_count c.stores_before
 
 -- no file changed
 abbrev pub IsUntouched : FolderCall → Type 0
@@ -52,9 +52,13 @@ Puts s text = IsTrue s.told → s.after ≡ s.before ++ text
 abbrev pub PutsNothing : SinkCall → Type 0
 PutsNothing s = IsTrue s.told → s.after ≡ s.before
 
+-- one put failed
+abbrev pub HasPutFault : SinkCall → Type 0
+HasPutFault s = s.faults_after ≡ raised_count s.faults_before
+
 -- a put failed, when a prefix of the text was taken
 pub record PutFails (s : SinkCall) (text : List ℕ) : Type 0 where
-  pub fault : HasRisen s.faults_before s.faults_after
+  pub fault : HasPutFault s
   pub prefix : TakesPrefix s.told s.before s.after text
 
 -- a folder's call, of its four members and the folder before and after

@@ -1,6 +1,5 @@
 -- When a command does what it was asked for.
 use Rattle.std.specs.Prelude.{◌≡◌, ◌≤◌, ℕ, true, List, IsTrue, Some, option_map, take, ◌⊎◌}
-use Rattle.tool_io.specs.Outside.{HasRisen}
 use Rattle.vm_model.specs.declared.ends.End.TheVariants as end
 use Rattle.vm_model.specs.declared.ends.Fault.{Fault}
 use Rattle.vm_model.specs.Ends.{kind_of_end}
@@ -18,7 +17,7 @@ use Rattle.drill_program.specs.Texts.{drill_text}
 use Rattle.dejavu_tool.specs.declared.status.Status.{Status}
 use Rattle.dejavu_tool.specs.declared.status.Status.TheVariants as status
 use Rattle.dejavu_tool.specs.Accepting.{IsAccepted}
-use Rattle.dejavu_tool.specs.Calls.{FolderCall, SinkCall, LoadFails, StoreFails}
+use Rattle.dejavu_tool.specs.Calls.{FolderCall, SinkCall, HasPutFault, LoadFails, StoreFails}
 
 -- ---- what the folder holds
 
@@ -47,7 +46,7 @@ pub record HasSchedule (c : FolderCall) (events : ℕ) (name : List ℕ) : Type 
 -- no load and no put fails
 pub record IsUnhindered (c : FolderCall) (s : SinkCall) : Type 0 where
   pub no_load : LoadFails c → ⊥
-  pub no_put : HasRisen s.faults_before s.faults_after → ⊥
+  pub no_put : HasPutFault s → ⊥
 
 -- ---- runs
 

@@ -1,5 +1,6 @@
 -- What the stages of a command leave.
-use Rattle.std.specs.Prelude.{◌≡◌, ℕ, ◌≤◌, List, ◌⊎◌}
+use Rattle.std.specs.Prelude.{◌≡◌, ℕ, ◌≤◌, List, ◌⊎◌, Result, Ok, Err}
+use Rattle.tool_io.specs.Outside.{raised_count}
 use Rattle.command_line.specs.Requests.{Request}
 use Rattle.dejavu_tool.specs.declared.halt.Halt.{Halt}
 use Rattle.dejavu_tool.specs.declared.halt.Halt.TheVariants as halt
@@ -15,6 +16,18 @@ pub record OnlyReads (c : FolderCall) : Type 0 where
   pub files : (name : List ℕ) → c.after name ≡ c.before name
   pub loads : c.loads_before ≤ c.loads_after
   pub stores : c.stores_after ≡ c.stores_before
+
+-- the count of failed loads by the status that comes: one load failed where that is the cause, else none did
+abbrev pub CountsTold : ℕ → ℕ → Status → Type 0
+CountsTold old new status.ReadFault = new ≡ raised_count old
+CountsTold old new _ = new ≡ old
+
+-- the same of a stage; where memory was missing it may have been for the line of a load that failed
+abbrev pub CountsLoads : {X : Type 0} → ℕ → ℕ → Result X Halt → Type 0
+CountsLoads old new (Ok x) = new ≡ old
+CountsLoads old new (Err (halt.Told status line)) = CountsTold old new status
+CountsLoads old new (Err halt.Memory) = (new ≡ old) ⊎ (new ≡ raised_count old)
+CountsLoads old new (Err halt.Store) = new ≡ old
 
 -- a stage that stores nothing: why it doesn't go on, by the status and its line
 abbrev pub HaltsBy : (Status → List ℕ → Type 0) → Halt → Type 0
@@ -57,3 +70,10 @@ abbrev pub Halts : Request → FolderCall → Halt → Type 0
 Halts asked c (halt.Told status line) = Stops asked c status line.items
 Halts asked c halt.Memory = LeavesFiles asked c
 Halts asked c halt.Store = StoreIsLost asked c
+
+-- the count of failed loads by the status of a command: one load failed after a read fault, none after other statuses, but
+-- that after a write fault and want of memory it may be the one whose line couldn't be printed
+abbrev pub CountsAnswer : ℕ → ℕ → Status → Type 0
+CountsAnswer old new status.WriteFault = (new ≡ old) ⊎ (new ≡ raised_count old)
+CountsAnswer old new status.OutOfMemory = (new ≡ old) ⊎ (new ≡ raised_count old)
+CountsAnswer old new answer = CountsTold old new answer

@@ -5,7 +5,7 @@ ghost use Rattle.dejavu_tool.specs.Answers.{Checks};
 ghost use Rattle.dejavu_tool.specs.Calls.{folder_call};
 ghost use Rattle.dejavu_tool.specs.Checking as spec;
 ghost use Rattle.command_line.specs.Requests.{Check};
-ghost use Rattle.dejavu_tool.specs.Stages.{Halts};
+ghost use Rattle.dejavu_tool.specs.Stages.{CountsLoads, Halts};
 
 use crate::halt::Halt;
 use crate::loading::load_program;
@@ -65,6 +65,7 @@ fn check_text(alloc: Global, program: &Program) -> Result<Vec<u8>, NoMemory>
 pub fn check_file<F: Folder>(alloc: Global, program: &str, folder: &mut F) -> Result<Vec<u8>, Halt>
     ensures checks { IfOk result (λ text. Checks (folder_call F.is_told F.file F.load_faults F.store_faults folder.old folder.new) program.now text.items) }
     ensures halts { IfErr result (Halts (Check program.now) (folder_call F.is_told F.file F.load_faults F.store_faults folder.old folder.new)) }
+    ensures counts { CountsLoads (F.load_faults folder.old) (F.load_faults folder.new) result }
 {
     let shaped = load_program(alloc, program, folder)?;
     Ok(check_text(alloc, shaped.program())?)

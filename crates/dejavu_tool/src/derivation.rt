@@ -7,7 +7,7 @@ ghost use Rattle.command_line.specs.Requests.{Derive};
 ghost use Rattle.dejavu_tool.specs.Answers.{Derives};
 ghost use Rattle.dejavu_tool.specs.Calls.{folder_call};
 ghost use Rattle.dejavu_tool.specs.Runs.{DeriveStops, TellsDerived};
-ghost use Rattle.dejavu_tool.specs.Stages.{Halts, HaltsBy};
+ghost use Rattle.dejavu_tool.specs.Stages.{CountsLoads, Halts, HaltsBy};
 ghost use Rattle.std.specs.Prelude.{◌≤◌};
 ghost use Rattle.vm_model.specs.declared.limits.TheConstants.{MOST_SWITCHES};
 
@@ -77,6 +77,7 @@ pub fn derive_file<F: Folder>(
 ) -> Result<Vec<u8>, Halt>
     ensures derives { IfOk result (λ text. Derives (folder_call F.is_told F.file F.load_faults F.store_faults folder.old folder.new) program.now log.now schedule.now text.items) }
     ensures halts { IfErr result (Halts (Derive program.now log.now schedule.now) (folder_call F.is_told F.file F.load_faults F.store_faults folder.old folder.new)) }
+    ensures counts { CountsLoads (F.load_faults folder.old) (F.load_faults folder.new) result }
 {
     let shaped = load_program(alloc, program, folder)?;
     let kept = load_log(alloc, log, folder)?;

@@ -10,7 +10,7 @@ ghost use Rattle.dejavu_tool.specs.Answers.{Drills, TellsDrill};
 ghost use Rattle.dejavu_tool.specs.Checking.{count_line};
 ghost use Rattle.dejavu_tool.specs.Calls.{folder_call};
 ghost use Rattle.dejavu_tool.specs.Runs.{TellsRecording};
-ghost use Rattle.dejavu_tool.specs.Stages.{Halts, HaltsBy, TextStops};
+ghost use Rattle.dejavu_tool.specs.Stages.{CountsLoads, Halts, HaltsBy, TextStops};
 
 use crate::checking::put_count;
 use crate::halt::Halt;
@@ -105,6 +105,7 @@ pub fn drill_file<F: Folder>(
     requires few { workers ≤ 60 }
     ensures drills { IfOk result (λ text. Drills (folder_call F.is_told F.file F.load_faults F.store_faults folder.old folder.new) workers program.now text.items) }
     ensures halts { IfErr result (Halts (Drill workers program.now) (folder_call F.is_told F.file F.load_faults F.store_faults folder.old folder.new)) }
+    ensures counts { CountsLoads (F.load_faults folder.old) (F.load_faults folder.new) result }
 {
     let text = drill_text(alloc, workers)?;
     store_file(alloc, program, &text, folder)?;

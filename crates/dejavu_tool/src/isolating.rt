@@ -8,7 +8,7 @@ ghost use Rattle.command_line.specs.Requests.{Isolate};
 ghost use Rattle.dejavu_tool.specs.Answers.{Isolates};
 ghost use Rattle.dejavu_tool.specs.Calls.{folder_call};
 ghost use Rattle.dejavu_tool.specs.Runs.{IsolateStops, TellsIsolated};
-ghost use Rattle.dejavu_tool.specs.Stages.{Halts, HaltsBy};
+ghost use Rattle.dejavu_tool.specs.Stages.{CountsLoads, Halts, HaltsBy};
 
 use crate::halt::Halt;
 use crate::lines;
@@ -99,6 +99,7 @@ pub fn isolate_file<H: Threads + Sync, F: Folder>(
     requires few { workers ≤ 16 }
     ensures isolates { IfOk result (λ text. Isolates (folder_call F.is_told F.file F.load_faults F.store_faults folder.old folder.new) program.now pass.now fail.now tests events text.items) }
     ensures halts { IfErr result (Halts (Isolate program.now pass.now fail.now tests workers events) (folder_call F.is_told F.file F.load_faults F.store_faults folder.old folder.new)) }
+    ensures counts { CountsLoads (F.load_faults folder.old) (F.load_faults folder.new) result }
 {
     let shaped = load_program(alloc, program, folder)?;
     let passing = load_schedule(alloc, pass, events, folder)?;

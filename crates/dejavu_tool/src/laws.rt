@@ -1,11 +1,15 @@
 //! What follows from the promises of the tool. Each function does nothing: its contract is the law.
 
-ghost use Rattle.std.specs.Prelude.{◌≡◌, ◌≢◌, ◌≤◌, ℕ, List, true, None, Some, is_some, slice_get};
+ghost use Rattle.std.specs.Prelude.{◌≡◌, ◌≢◌, ◌≤◌, ℕ, List, true, None, Ok, Some, is_some, slice_get};
 ghost use Rattle.vm_model.specs.Program.{PlainProgram};
+ghost use Rattle.machine_model.specs.Declarations.{declarations_of};
 ghost use Rattle.machine_model.specs.Frames.{LocalState, Ended};
 ghost use Rattle.machine_model.specs.LocalStep.{pending_operation};
 ghost use Rattle.machine_model.specs.Machine.{MachineState, end_of, run, start_machine};
 ghost use Rattle.machine_model.specs.Shapes.{Table, IsShapeTable};
+ghost use Rattle.shared_world.specs.Fitting.{FirstValuesFit};
+ghost use Rattle.jasmin_reader.specs.Plain.{PlainClassText};
+ghost use Rattle.class_linker.specs.Linking.{linking};
 ghost use Rattle.shape_laws.specs.Worlds.{FitsMachine};
 ghost use Rattle.dejavu_tool.specs.Accepting.{IsAccepted};
 ghost use Rattle.dejavu_tool.specs.Headline.{ReplayPrintsRecording};
@@ -26,4 +30,11 @@ pub fn accepted_program_begins()
 pub fn accepted_runs_fit()
     ensures machines { (text : List ℕ) (p : PlainProgram) (table : Table) (m : MachineState) (ts : List ℕ) → IsAccepted text p → IsShapeTable p table → run p ts ≡ Some m → FitsMachine p table m }
     ensures threads { (text : List ℕ) (p : PlainProgram) (m : MachineState) (ts : List ℕ) (t : ℕ) (l : LocalState) → IsAccepted text p → run p ts ≡ Some m → slice_get m.locals t ≡ Some l → l ≢ Ended → is_some (pending_operation p l) ≡ true }
+{}
+
+/// What the statics of a linked program hold at first fits their kinds, so that a world that begins with it gives values of
+/// the declared kinds.
+pub fn first_values_of_statics_fit()
+    ensures linked { (classes : List PlainClassText) (p : PlainProgram) → linking classes ≡ Ok p → FirstValuesFit (declarations_of p) }
+    ensures accepted { (text : List ℕ) (p : PlainProgram) → IsAccepted text p → FirstValuesFit (declarations_of p) }
 {}

@@ -2,6 +2,7 @@
 
 ghost use Rattle.std.specs.Prelude.{◌≡◌, ◌≤◌, None, IfOk, IfErr, length};
 ghost use Rattle.vm_model.specs.declared.limits.TheConstants.{MOST_EVENTS};
+ghost use Rattle.linking_laws.specs.Limits.{HasFewClasses, HasFewStatics};
 ghost use Rattle.machine_model.specs.Machine.{end_of, start_machine};
 ghost use Rattle.schedule_log.specs.Spelling.{Spells};
 ghost use Rattle.switch_schedule.specs.Texts.{SpellsSchedule};
@@ -9,7 +10,7 @@ ghost use Rattle.dejavu_tool.specs.declared.programs.ProgramFault.TheVariants.{S
 ghost use Rattle.dejavu_tool.specs.Accepting.{IsAccepted, Refuses};
 ghost use Rattle.dejavu_tool.specs.Calls.{folder_call, Loads};
 ghost use Rattle.dejavu_tool.specs.Files.{FileStops, LoadsLog, LoadsProgram, LoadsSchedule, LogStops, ProgramStops, ScheduleStops, TellsFault, TellsShape};
-ghost use Rattle.dejavu_tool.specs.Stages.{BytesStop, HaltsBy, OnlyReads, TextStops, TimesStop};
+ghost use Rattle.dejavu_tool.specs.Stages.{BytesStop, CountsLoads, HaltsBy, OnlyReads, TextStops, TimesStop};
 
 use crate::halt::Halt;
 use crate::lines;
@@ -29,6 +30,7 @@ fn load_file<F: Folder>(alloc: Global, name: &str, folder: &mut F) -> Result<Vec
     ensures reads { OnlyReads (folder_call F.is_told F.file F.load_faults F.store_faults folder.old folder.new) }
     ensures loaded { IfOk result (λ bytes. Loads (folder_call F.is_told F.file F.load_faults F.store_faults folder.old folder.new) name.now bytes.items) }
     ensures halts { IfErr result (HaltsBy (FileStops (folder_call F.is_told F.file F.load_faults F.store_faults folder.old folder.new) name.now)) }
+    ensures counts { CountsLoads (F.load_faults folder.old) (F.load_faults folder.new) result }
 {
     match folder.load(alloc, name) {
         Load::Loaded(bytes) => Ok(bytes),
@@ -75,6 +77,8 @@ fn refusal(alloc: Global, text: &[u8], fault: ProgramFault) -> Result<Vec<u8>, N
 pub fn program_of(alloc: Global, text: &[u8]) -> Result<Shaped, Halt>
     ensures accepted { IfOk result (λ p. IsAccepted text.now p) }
     ensures begins { IfOk result (λ p. end_of p (start_machine p) MOST_EVENTS ≡ None) }
+    ensures statics { IfOk result HasFewStatics }
+    ensures classes { IfOk result HasFewClasses }
     ensures halts { IfErr result (HaltsBy (TextStops text.now)) }
 {
     match accept(alloc, text) {
@@ -120,7 +124,10 @@ pub fn load_program<F: Folder>(alloc: Global, name: &str, folder: &mut F) -> Res
     ensures reads { OnlyReads (folder_call F.is_told F.file F.load_faults F.store_faults folder.old folder.new) }
     ensures loads { IfOk result (LoadsProgram (folder_call F.is_told F.file F.load_faults F.store_faults folder.old folder.new) name.now) }
     ensures begins { IfOk result (λ p. end_of p (start_machine p) MOST_EVENTS ≡ None) }
+    ensures statics { IfOk result HasFewStatics }
+    ensures classes { IfOk result HasFewClasses }
     ensures halts { IfErr result (HaltsBy (ProgramStops (folder_call F.is_told F.file F.load_faults F.store_faults folder.old folder.new) name.now)) }
+    ensures counts { CountsLoads (F.load_faults folder.old) (F.load_faults folder.new) result }
 {
     let text = load_file(alloc, name, folder)?;
     program_of(alloc, &text)
@@ -132,6 +139,7 @@ pub fn load_log<F: Folder>(alloc: Global, name: &str, folder: &mut F) -> Result<
     ensures reads { OnlyReads (folder_call F.is_told F.file F.load_faults F.store_faults folder.old folder.new) }
     ensures loads { IfOk result (LoadsLog (folder_call F.is_told F.file F.load_faults F.store_faults folder.old folder.new) name.now) }
     ensures halts { IfErr result (HaltsBy (LogStops (folder_call F.is_told F.file F.load_faults F.store_faults folder.old folder.new) name.now)) }
+    ensures counts { CountsLoads (F.load_faults folder.old) (F.load_faults folder.new) result }
 {
     let bytes = load_file(alloc, name, folder)?;
     log_of(alloc, &bytes)
@@ -149,6 +157,7 @@ pub fn load_schedule<F: Folder>(
     ensures reads { OnlyReads (folder_call F.is_told F.file F.load_faults F.store_faults folder.old folder.new) }
     ensures loads { IfOk result (LoadsSchedule (folder_call F.is_told F.file F.load_faults F.store_faults folder.old folder.new) events name.now) }
     ensures halts { IfErr result (HaltsBy (ScheduleStops (folder_call F.is_told F.file F.load_faults F.store_faults folder.old folder.new) events name.now)) }
+    ensures counts { CountsLoads (F.load_faults folder.old) (F.load_faults folder.new) result }
 {
     let bytes = load_file(alloc, name, folder)?;
     schedule_of(alloc, &bytes, events)

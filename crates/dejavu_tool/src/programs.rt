@@ -3,6 +3,7 @@ ghost use Rattle.vm_model.specs.declared.limits.TheConstants.{MOST_EVENTS};
 ghost use Rattle.class_linker.specs.Linking.{linking};
 ghost use Rattle.jasmin_reader.specs.Reading.{reading};
 ghost use Rattle.jasmin_text.specs.Texts.{tokens_of};
+ghost use Rattle.linking_laws.specs.Limits.{HasFewClasses, HasFewStatics};
 ghost use Rattle.machine_model.specs.Machine.{end_of, start_machine};
 ghost use Rattle.dejavu_tool.specs.Accepting.{Gives, IsAccepted, Refuses, by_classes, by_link, by_tokens, linked};
 
@@ -91,13 +92,16 @@ pub fn linked_program(alloc: Global, text: &[u8]) -> Result<Program, ProgramFaul
     link_text(alloc, text)
 }
 
-/// The program of a text in Jasmin's form, of at most `MOST_TEXT_BYTES` bytes. An accepted program makes an event.
+/// The program of a text in Jasmin's form, of at most `MOST_TEXT_BYTES` bytes. An accepted program makes an event, and
+/// has at most 1,024 statics and 256 classes.
 ///
 /// The text's bytes are judged first, then its grammar, then its names, and last the shapes of its methods.
 pub fn accept(alloc: Global, text: &[u8]) -> Result<Shaped, ProgramFault>
     ensures accepted { IfOk result (λ p. IsAccepted text.now p) }
     ensures refused { IfErr result (Refuses text.now) }
     ensures begins { IfOk result (λ p. end_of p (start_machine p) MOST_EVENTS ≡ None) }
+    ensures statics { IfOk result HasFewStatics }
+    ensures classes { IfOk result HasFewClasses }
 {
     let program = linked_program(alloc, text)?;
     match verify(alloc, program) {

@@ -9,7 +9,7 @@ ghost use Rattle.command_line.specs.Requests.{Races};
 ghost use Rattle.dejavu_tool.specs.Answers.{ReportsRaces};
 ghost use Rattle.dejavu_tool.specs.Calls.{folder_call};
 ghost use Rattle.dejavu_tool.specs.Runs.{RunStops, TellsRaces};
-ghost use Rattle.dejavu_tool.specs.Stages.{Halts, HaltsBy};
+ghost use Rattle.dejavu_tool.specs.Stages.{CountsLoads, Halts, HaltsBy};
 
 use crate::halt::Halt;
 use crate::loading::{load_log, load_program};
@@ -62,6 +62,7 @@ pub fn races_file<F: Folder>(
 ) -> Result<Vec<u8>, Halt>
     ensures races { IfOk result (λ text. ReportsRaces (folder_call F.is_told F.file F.load_faults F.store_faults folder.old folder.new) program.now log.now text.items) }
     ensures halts { IfErr result (Halts (Races program.now log.now) (folder_call F.is_told F.file F.load_faults F.store_faults folder.old folder.new)) }
+    ensures counts { CountsLoads (F.load_faults folder.old) (F.load_faults folder.new) result }
 {
     let shaped = load_program(alloc, program, folder)?;
     let kept = load_log(alloc, log, folder)?;

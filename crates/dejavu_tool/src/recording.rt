@@ -9,7 +9,7 @@ ghost use Rattle.command_line.specs.Requests.{Record};
 ghost use Rattle.dejavu_tool.specs.Answers.{Records};
 ghost use Rattle.dejavu_tool.specs.Calls.{folder_call};
 ghost use Rattle.dejavu_tool.specs.Runs.{TellsRecording, TellsRun};
-ghost use Rattle.dejavu_tool.specs.Stages.{Halts};
+ghost use Rattle.dejavu_tool.specs.Stages.{CountsLoads, Halts};
 
 use crate::halt::Halt;
 use crate::loading::load_program;
@@ -121,6 +121,7 @@ pub fn record_file<F: Folder>(
     requires limit { events ≤ MOST_EVENTS }
     ensures records { IfOk result (λ text. Records (folder_call F.is_told F.file F.load_faults F.store_faults folder.old folder.new) program.now log.now 1 events text.items) }
     ensures halts { IfErr result (Halts (Record program.now log.now 1 events) (folder_call F.is_told F.file F.load_faults F.store_faults folder.old folder.new)) }
+    ensures counts { CountsLoads (F.load_faults folder.old) (F.load_faults folder.new) result }
 {
     let shaped = load_program(alloc, program, folder)?;
     let run = run_recorded(alloc, shaped.plain(), events)?;
@@ -145,6 +146,7 @@ pub fn record_file_by<R: Threads + Wait + Sync, F: Folder, M: Meeting>(
     requires limit { events ≤ MOST_EVENTS }
     ensures records { IfOk result (λ text. Records (folder_call F.is_told F.file F.load_faults F.store_faults folder.old folder.new) program.now log.now lanes events text.items) }
     ensures halts { IfErr result (Halts (Record program.now log.now lanes events) (folder_call F.is_told F.file F.load_faults F.store_faults folder.old folder.new)) }
+    ensures counts { CountsLoads (F.load_faults folder.old) (F.load_faults folder.new) result }
 {
     let shaped = load_program(alloc, program, folder)?;
     let run = run_by(rt, alloc, shaped.plain(), lanes, events, meeting)?;

@@ -9,7 +9,7 @@ ghost use Rattle.command_line.specs.Requests.{Reduce};
 ghost use Rattle.dejavu_tool.specs.Answers.{Reduces};
 ghost use Rattle.dejavu_tool.specs.Calls.{folder_call};
 ghost use Rattle.dejavu_tool.specs.Runs.{ReduceStops, TellsReduced};
-ghost use Rattle.dejavu_tool.specs.Stages.{Halts, HaltsBy};
+ghost use Rattle.dejavu_tool.specs.Stages.{CountsLoads, Halts, HaltsBy};
 
 use crate::halt::Halt;
 use crate::lines;
@@ -99,6 +99,7 @@ pub fn reduce_file<H: Threads + Sync, F: Folder>(
     requires limit { events ≤ MOST_EVENTS }
     ensures reduces { IfOk result (λ text. Reduces (folder_call F.is_told F.file F.load_faults F.store_faults folder.old folder.new) program.now fail.now schedule.now tests events text.items) }
     ensures halts { IfErr result (Halts (Reduce program.now fail.now schedule.now tests events) (folder_call F.is_told F.file F.load_faults F.store_faults folder.old folder.new)) }
+    ensures counts { CountsLoads (F.load_faults folder.old) (F.load_faults folder.new) result }
 {
     let shaped = load_program(alloc, program, folder)?;
     let failing = load_schedule(alloc, fail, events, folder)?;

@@ -8,7 +8,7 @@ ghost use Rattle.command_line.specs.Requests.{Replay};
 ghost use Rattle.dejavu_tool.specs.Answers.{Replays};
 ghost use Rattle.dejavu_tool.specs.Calls.{folder_call};
 ghost use Rattle.dejavu_tool.specs.Runs.{RunStops, TellsRun};
-ghost use Rattle.dejavu_tool.specs.Stages.{Halts, HaltsBy};
+ghost use Rattle.dejavu_tool.specs.Stages.{CountsLoads, Halts, HaltsBy};
 
 use crate::halt::Halt;
 use crate::lines;
@@ -110,6 +110,7 @@ pub fn replay_file<F: Folder>(
 ) -> Result<Vec<u8>, Halt>
     ensures replays { IfOk result (λ text. Replays (folder_call F.is_told F.file F.load_faults F.store_faults folder.old folder.new) program.now log.now text.items) }
     ensures halts { IfErr result (Halts (Replay program.now log.now 1) (folder_call F.is_told F.file F.load_faults F.store_faults folder.old folder.new)) }
+    ensures counts { CountsLoads (F.load_faults folder.old) (F.load_faults folder.new) result }
 {
     let shaped = load_program(alloc, program, folder)?;
     let kept = load_log(alloc, log, folder)?;
@@ -131,6 +132,7 @@ pub fn replay_file_by<R: Threads + Wait + Sync, F: Folder, M: Meeting>(
     requires few { lanes ≤ MOST_LANES }
     ensures replays { IfOk result (λ text. Replays (folder_call F.is_told F.file F.load_faults F.store_faults folder.old folder.new) program.now log.now text.items) }
     ensures halts { IfErr result (Halts (Replay program.now log.now lanes) (folder_call F.is_told F.file F.load_faults F.store_faults folder.old folder.new)) }
+    ensures counts { CountsLoads (F.load_faults folder.old) (F.load_faults folder.new) result }
 {
     let shaped = load_program(alloc, program, folder)?;
     let kept = load_log(alloc, log, folder)?;

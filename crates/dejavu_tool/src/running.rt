@@ -7,7 +7,7 @@ ghost use Rattle.command_line.specs.Requests.{Run};
 ghost use Rattle.dejavu_tool.specs.Answers.{Runs};
 ghost use Rattle.dejavu_tool.specs.Calls.{folder_call};
 ghost use Rattle.dejavu_tool.specs.Runs.{TellsScheduled};
-ghost use Rattle.dejavu_tool.specs.Stages.{Halts};
+ghost use Rattle.dejavu_tool.specs.Stages.{CountsLoads, Halts};
 
 use crate::halt::Halt;
 use crate::loading::{load_program, load_schedule};
@@ -54,6 +54,7 @@ pub fn run_file<F: Folder>(
     requires limit { events ≤ MOST_EVENTS }
     ensures runs { IfOk result (λ text. Runs (folder_call F.is_told F.file F.load_faults F.store_faults folder.old folder.new) program.now schedule.now events text.items) }
     ensures halts { IfErr result (Halts (Run program.now schedule.now events) (folder_call F.is_told F.file F.load_faults F.store_faults folder.old folder.new)) }
+    ensures counts { CountsLoads (F.load_faults folder.old) (F.load_faults folder.new) result }
 {
     let shaped = load_program(alloc, program, folder)?;
     let times = load_schedule(alloc, schedule, events, folder)?;

@@ -9,7 +9,7 @@ ghost use Rattle.command_line.specs.Requests.{Seek};
 ghost use Rattle.dejavu_tool.specs.Answers.{Seeks};
 ghost use Rattle.dejavu_tool.specs.Calls.{folder_call};
 ghost use Rattle.dejavu_tool.specs.Runs.{SeekStops, TellsSought};
-ghost use Rattle.dejavu_tool.specs.Stages.{Halts, HaltsBy};
+ghost use Rattle.dejavu_tool.specs.Stages.{CountsLoads, Halts, HaltsBy};
 
 use crate::halt::Halt;
 use crate::lines;
@@ -100,6 +100,7 @@ pub fn seek_file<F: Folder>(
     requires few { tries ≤ 65536 }
     ensures seeks { IfOk result (λ text. Seeks (folder_call F.is_told F.file F.load_faults F.store_faults folder.old folder.new) program.now seed tries schedule.now events text.items) }
     ensures halts { IfErr result (Halts (Seek program.now seed tries schedule.now events) (folder_call F.is_told F.file F.load_faults F.store_faults folder.old folder.new)) }
+    ensures counts { CountsLoads (F.load_faults folder.old) (F.load_faults folder.new) result }
 {
     let shaped = load_program(alloc, program, folder)?;
     let found = sought(alloc, shaped.plain(), seed, tries, events)?;

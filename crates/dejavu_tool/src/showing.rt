@@ -1,13 +1,14 @@
 //! Showing: the state of a log's run at a clock.
 
-ghost use Rattle.std.specs.Prelude.{◌≡◌, ◌<◌, ◌+◌, true, IfOk, IfErr, length};
+ghost use Rattle.std.specs.Prelude.{◌≡◌, IfOk, IfErr};
 ghost use Rattle.command_line.specs.Requests.{Show};
 ghost use Rattle.dejavu_tool.specs.Answers.{Shows};
 ghost use Rattle.dejavu_tool.specs.Calls.{folder_call};
 ghost use Rattle.dejavu_tool.specs.Runs.{StateStops, TellsState};
-ghost use Rattle.dejavu_tool.specs.Stages.{Halts, HaltsBy};
+ghost use Rattle.dejavu_tool.specs.Stages.{CountsLoads, Halts, HaltsBy};
 ghost use Rattle.event_machine.specs.MachineView.{machine_of};
 ghost use Rattle.machine_model.specs.Machine.{run};
+ghost use Rattle.linking_laws.specs.Limits.{HasFewClasses, HasFewStatics};
 ghost use Rattle.schedule_log.specs.Logs.{expansion};
 ghost use Rattle.std.specs.Prelude.{Some, take};
 
@@ -21,7 +22,7 @@ use schedule_log::Log;
 use std::alloc::Global;
 use thread_driver::{ReplayFault, replay_until};
 use tool_io::Folder;
-use vm_model::{Plain, Program};
+use vm_model::Plain;
 
 /// The machine after the log's events below the clock.
 fn machine_at(alloc: Global, plain: &Plain, log: &Log, clock: u64) -> Result<Machine, Halt>
@@ -38,22 +39,14 @@ fn machine_at(alloc: Global, plain: &Plain, log: &Log, clock: u64) -> Result<Mac
     }
 }
 
-/// Whether statics and classes have numbers of 32 bits, as those of each linked program have.
-fn has_numbers(program: &Program) -> bool
-    ensures { result ≡ true → (length program.now.statics < 4294967296) × (32 + length program.now.classes < 4294967296) }
-{
-    (program.statics.len() as u64) < 4_294_967_296 && (program.classes.len() as u64) < 4_294_967_264
-}
-
 /// What is printed of the state at a clock.
 fn text_at(alloc: Global, plain: &Plain, log: &Log, clock: u64) -> Result<Vec<u8>, Halt>
+    requires statics { HasFewStatics plain.now }
+    requires classes { HasFewClasses plain.now }
     ensures state { IfOk result (λ text. TellsState plain.now log.now clock text.items) }
     ensures halts { IfErr result (HaltsBy (StateStops plain.now log.now clock)) }
 {
     let machine = machine_at(alloc, plain, log, clock)?;
-    if !has_numbers(plain.program()) {
-        return Err(Halt::Memory);
-    }
     Ok(state_text(alloc, &machine, plain.program())?)
 }
 
@@ -67,6 +60,7 @@ pub fn show_file<F: Folder>(
 ) -> Result<Vec<u8>, Halt>
     ensures shows { IfOk result (λ text. Shows (folder_call F.is_told F.file F.load_faults F.store_faults folder.old folder.new) program.now log.now clock text.items) }
     ensures halts { IfErr result (Halts (Show program.now log.now clock) (folder_call F.is_told F.file F.load_faults F.store_faults folder.old folder.new)) }
+    ensures counts { CountsLoads (F.load_faults folder.old) (F.load_faults folder.new) result }
 {
     let shaped = load_program(alloc, program, folder)?;
     let kept = load_log(alloc, log, folder)?;

@@ -4,7 +4,7 @@ ghost use Rattle.std.specs.Prelude.{◌≡◌, IfOk, IfErr};
 ghost use Rattle.command_line.specs.Requests.{Tiles};
 ghost use Rattle.dejavu_tool.specs.Answers.{ListsTiles};
 ghost use Rattle.dejavu_tool.specs.Calls.{folder_call};
-ghost use Rattle.dejavu_tool.specs.Stages.{Halts};
+ghost use Rattle.dejavu_tool.specs.Stages.{CountsLoads, Halts};
 
 use crate::halt::Halt;
 use crate::loading::load_log;
@@ -16,6 +16,7 @@ use tool_io::Folder;
 pub fn tiles_file<F: Folder>(alloc: Global, log: &str, folder: &mut F) -> Result<Vec<u8>, Halt>
     ensures tiles { IfOk result (λ text. ListsTiles (folder_call F.is_told F.file F.load_faults F.store_faults folder.old folder.new) log.now text.items) }
     ensures halts { IfErr result (Halts (Tiles log.now) (folder_call F.is_told F.file F.load_faults F.store_faults folder.old folder.new)) }
+    ensures counts { CountsLoads (F.load_faults folder.old) (F.load_faults folder.new) result }
 {
     let kept = load_log(alloc, log, folder)?;
     Ok(tiles_text(alloc, &kept)?)

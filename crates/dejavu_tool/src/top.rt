@@ -5,7 +5,7 @@ ghost use Rattle.dejavu_tool.specs.Answers.{Answers, Does, on_one_lane};
 ghost use Rattle.dejavu_tool.specs.Calls.{folder_call, sink_call};
 ghost use Rattle.dejavu_tool.specs.Completeness.{IsComplete};
 ghost use Rattle.dejavu_tool.specs.Headline.{CheckHolds, DeriveHolds, DrillHolds, IsolationHolds, RacesHold, RecordingHolds, ReduceHolds, ReplayHolds, RunHolds, SeekHolds, ShowHolds, TilesHold};
-ghost use Rattle.dejavu_tool.specs.Stages.{Halts, HaltsBy, PutsUnlessFault, UsageTold};
+ghost use Rattle.dejavu_tool.specs.Stages.{CountsAnswer, CountsLoads, Halts, HaltsBy, PutsUnlessFault, UsageTold};
 
 use crate::checking::check_file;
 use crate::derivation::derive_file;
@@ -47,6 +47,7 @@ fn done<H: Threads + Sync, F: Folder>(
     requires { IsWithin command }
     ensures does { IfOk result (λ text. Does (on_one_lane (plain_command command.entry)) (folder_call F.is_told F.file F.load_faults F.store_faults folder.old folder.new) text.items) }
     ensures halts { IfErr result (Halts (on_one_lane (plain_command command.entry)) (folder_call F.is_told F.file F.load_faults F.store_faults folder.old folder.new)) }
+    ensures counts { CountsLoads (F.load_faults folder.old) (F.load_faults folder.new) result }
 {
     match command {
         Command::Check { program } => check_file(alloc, program, folder),
@@ -118,6 +119,7 @@ fn done_by_lanes<H: Threads + Wait + Sync, F: Folder, M: Meeting>(
     requires { IsWithin command }
     ensures does { IfOk result (λ text. Does (plain_command command.entry) (folder_call F.is_told F.file F.load_faults F.store_faults folder.old folder.new) text.items) }
     ensures halts { IfErr result (Halts (plain_command command.entry) (folder_call F.is_told F.file F.load_faults F.store_faults folder.old folder.new)) }
+    ensures counts { CountsLoads (F.load_faults folder.old) (F.load_faults folder.new) result }
 {
     match command {
         Command::Record {
@@ -162,7 +164,8 @@ fn answered<H: Threads + Sync, F: Folder, O: Sink>(
     folder: &mut F,
     out: &mut O,
 ) -> Status
-    ensures { Answers (on_one_lane (request_of (map string_bytes words.now))) (folder_call F.is_told F.file F.load_faults F.store_faults folder.old folder.new) (sink_call O.is_told O.taken O.faults out.old out.new) result }
+    ensures answer { Answers (on_one_lane (request_of (map string_bytes words.now))) (folder_call F.is_told F.file F.load_faults F.store_faults folder.old folder.new) (sink_call O.is_told O.taken O.faults out.old out.new) result }
+    ensures counted { CountsAnswer (F.load_faults folder.old) (F.load_faults folder.new) result }
 {
     let Ok(command) = command_in(alloc, words) else {
         return Status::OutOfMemory;
@@ -184,7 +187,8 @@ fn answered_by_lanes<H: Threads + Wait + Sync, F: Folder, O: Sink, M: Meeting>(
     out: &mut O,
     meeting: &M,
 ) -> Status
-    ensures { Answers (request_of (map string_bytes words.now)) (folder_call F.is_told F.file F.load_faults F.store_faults folder.old folder.new) (sink_call O.is_told O.taken O.faults out.old out.new) result }
+    ensures answer { Answers (request_of (map string_bytes words.now)) (folder_call F.is_told F.file F.load_faults F.store_faults folder.old folder.new) (sink_call O.is_told O.taken O.faults out.old out.new) result }
+    ensures counted { CountsAnswer (F.load_faults folder.old) (F.load_faults folder.new) result }
 {
     let Ok(command) = command_in(alloc, words) else {
         return Status::OutOfMemory;
@@ -211,6 +215,8 @@ pub fn still_command<H: Threads + Sync, F: Folder, O: Sink>(
     ensures replay { ReplayHolds (on_one_lane (request_of (map string_bytes words.now))) (folder_call F.is_told F.file F.load_faults F.store_faults folder.old folder.new) (sink_call O.is_told O.taken O.faults out.old out.new) result }
     // When each status comes, and what it prints and leaves.
     ensures answer { Answers (on_one_lane (request_of (map string_bytes words.now))) (folder_call F.is_told F.file F.load_faults F.store_faults folder.old folder.new) (sink_call O.is_told O.taken O.faults out.old out.new) result }
+    // How many loads failed.
+    ensures counted { CountsAnswer (F.load_faults folder.old) (F.load_faults folder.new) result }
     // Where nothing stands in the way, the status is `Ok`, unless memory runs out.
     ensures complete { IsComplete (on_one_lane (request_of (map string_bytes words.now))) (folder_call F.is_told F.file F.load_faults F.store_faults folder.old folder.new) (sink_call O.is_told O.taken O.faults out.old out.new) result }
 {
@@ -256,6 +262,8 @@ pub fn dejavu<H: Threads + Wait + Sync, F: Folder, O: Sink, M: Meeting>(
     ensures drill { DrillHolds (request_of (map string_bytes words.now)) (folder_call F.is_told F.file F.load_faults F.store_faults folder.old folder.new) (sink_call O.is_told O.taken O.faults out.old out.new) result }
     // When each status comes, and what it prints and leaves.
     ensures answer { Answers (request_of (map string_bytes words.now)) (folder_call F.is_told F.file F.load_faults F.store_faults folder.old folder.new) (sink_call O.is_told O.taken O.faults out.old out.new) result }
+    // How many loads failed.
+    ensures counted { CountsAnswer (F.load_faults folder.old) (F.load_faults folder.new) result }
     // Where nothing stands in the way, the status is `Ok`, unless memory runs out.
     ensures complete { IsComplete (request_of (map string_bytes words.now)) (folder_call F.is_told F.file F.load_faults F.store_faults folder.old folder.new) (sink_call O.is_told O.taken O.faults out.old out.new) result }
 {

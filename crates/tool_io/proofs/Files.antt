@@ -3,8 +3,7 @@ use Rattle.std.proofs.Common.{◌≡◌, ℕ, zero, suc, ◌+◌, ◌-◌, ◌^�
 use Rattle.std.specs.Prelude.{◌==◌}
 use Rattle.std.specs.Str.{bytes_eq}
 use Rattle.std.specs.Cmp.Lexicographic.{bytes_decides}
-use Rattle.tool_io.specs.Memory.{Stored, file_in, raised_count}
-use Rattle.tool_io.specs.Outside.{HasRisen}
+use Rattle.tool_io.specs.Memory.{Stored, file_in}
 
 same_bytes : (xs : List ℕ) → bytes_eq xs xs ≡ true
 same_bytes xs = (bytes_decides xs xs).1 refl
@@ -68,18 +67,6 @@ file_in-append_same (f ∷ fs) name f' none here =
 pub file_in-append_other : (files : List Stored) (name other : List ℕ) (f' : Stored) → f'.0 ≡ name → (other ≡ name → ⊥) → file_in (files ++ f' ∷ []) other ≡ file_in files other
 file_in-append_other [] name other f' here ne = rw (other_bytes f'.0 other (λ e. ne (sym e ∙ here))) refl
 file_in-append_other (f ∷ fs) name other f' here ne = ap (cond (bytes_eq f.0 other) (Some f.1.items)) (file_in-append_other fs name other f' here ne)
-
--- a raised count has risen
-risen_if : (b : Bool) (n : ℕ) → (n == 2 ^ 64 - 1) ≡ b → HasRisen n (cond b n (n + 1))
-risen_if true n e = inr (grind arith)
-risen_if false n e = inl (omega arith)
-
-pub raised_count-risen : (n : ℕ) → HasRisen n (raised_count n)
-raised_count-risen n = risen_if (n == 2 ^ 64 - 1) n refl
-
-pub HasRisen-from : (low old new : ℕ) → low ≤ old → HasRisen old new → HasRisen low new
-HasRisen-from low old new h (inl up) = inl (omega arith)
-HasRisen-from low old new h (inr top) = inr top
 
 take-none : (n : ℕ) → take {A = ℕ} n [] ≡ []
 take-none zero = refl

@@ -41,6 +41,3 @@ pub record IsPlaceOf (files : List Stored) (name : List ℕ) (i : ℕ) : Type 0 
 abbrev pub AreDistinct : List Stored → Type 0
 AreDistinct [] = Unit {0}
 AreDistinct (f ∷ fs) = (file_in fs f.0 ≡ None) × AreDistinct fs
-
-abbrev pub raised_count : ℕ → ℕ
-raised_count count = if count == 2 ^ 64 - 1 then count else count + 1

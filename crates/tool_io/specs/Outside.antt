@@ -1,5 +1,5 @@
 -- What folders and sinks answer, and what they hold.
-use Rattle.std.specs.Prelude.{◌≡◌, ◌≢◌, ℕ, ◌-◌, ◌^◌, ◌<◌, ◌≤◌, ◌⊎◌, Bool, List, ◌++◌, length, take, Option, Some, None, IsTrue}
+use Rattle.std.specs.Prelude.{◌≡◌, ◌≢◌, ℕ, ◌+◌, ◌-◌, ◌^◌, ◌==◌, if◌then◌else◌, ◌<◌, ◌≤◌, Bool, List, ◌++◌, length, take, Option, Some, None, IsTrue}
 use Rattle.tool_io.specs.declared.folder.Load.{Load}
 use Rattle.tool_io.specs.declared.folder.Load.TheVariants as load
 use Rattle.tool_io.specs.declared.folder.Store.{Store}
@@ -7,9 +7,9 @@ use Rattle.tool_io.specs.declared.folder.Store.TheVariants as store
 use Rattle.tool_io.specs.declared.sink.Put.{Put}
 use Rattle.tool_io.specs.declared.sink.Put.TheVariants as put
 
--- a count of faults rose, or stands at its end, where it counts as risen
-abbrev pub HasRisen : ℕ → ℕ → Type 0
-HasRisen old new = (old < new) ⊎ (new ≡ 2 ^ 64 - 1)
+-- a count after one call more, of those that it counts: it ends at 2^64 - 1
+abbrev pub raised_count : ℕ → ℕ
+raised_count count = if count == 2 ^ 64 - 1 then count else count + 1
 
 -- what a load gives, where the folder tells what it holds under the name
 abbrev pub LoadGives : Bool → Option (List ℕ) → Load → Type 0
@@ -18,12 +18,12 @@ LoadGives told file load.Absent = IsTrue told → file ≡ None
 LoadGives told file load.Failed = Unit {0}
 LoadGives told file load.NoMemory = Unit {0}
 
--- a load fails only where the count of failed loads rose
+-- a load that fails raises the count of failed loads, and no other one does
 abbrev pub LoadFails : ℕ → ℕ → Load → Type 0
-LoadFails old new (load.Loaded bytes) = Unit {0}
-LoadFails old new load.Absent = Unit {0}
-LoadFails old new load.Failed = HasRisen old new
-LoadFails old new load.NoMemory = Unit {0}
+LoadFails old new (load.Loaded bytes) = new ≡ old
+LoadFails old new load.Absent = new ≡ old
+LoadFails old new load.Failed = new ≡ raised_count old
+LoadFails old new load.NoMemory = new ≡ old
 
 abbrev pub HasLoadFailed : Load → Type 0
 HasLoadFailed (load.Loaded bytes) = ⊥
@@ -48,11 +48,11 @@ StoreGives told old new name bytes store.Stored = IsTrue told → SetsFile old n
 StoreGives told old new name bytes store.Failed = IsTrue told → SameButOne old new name
 StoreGives told old new name bytes store.NoMemory = IsTrue told → SameFiles old new
 
--- a store fails only where the count of failed stores rose
+-- a store that fails raises the count of failed stores, and no other one does
 abbrev pub StoreFails : ℕ → ℕ → Store → Type 0
-StoreFails old new store.Stored = Unit {0}
-StoreFails old new store.Failed = HasRisen old new
-StoreFails old new store.NoMemory = Unit {0}
+StoreFails old new store.Stored = new ≡ old
+StoreFails old new store.Failed = new ≡ raised_count old
+StoreFails old new store.NoMemory = new ≡ old
 
 abbrev pub HasStoreFailed : Store → Type 0
 HasStoreFailed store.Stored = ⊥
@@ -74,10 +74,10 @@ abbrev pub PutCounts : ℕ → Put → Type 0
 PutCounts count (put.Taken n) = n ≡ count
 PutCounts count put.Failed = Unit {0}
 
--- a put fails only where the count of failed puts rose
+-- a put that fails raises the count of failed puts, and no other one does
 abbrev pub PutFails : ℕ → ℕ → Put → Type 0
-PutFails old new (put.Taken n) = Unit {0}
-PutFails old new put.Failed = HasRisen old new
+PutFails old new (put.Taken n) = new ≡ old
+PutFails old new put.Failed = new ≡ raised_count old
 
 abbrev pub HasPutFailed : Put → Type 0
 HasPutFailed (put.Taken n) = ⊥

@@ -26,7 +26,7 @@ pub enum Store {
 }
 
 /// A folder of files. It may tell what it holds, as a map from names to bytes; a real one doesn't. It counts the loads and
-/// the stores that failed; a count ends at 2^64 - 1.
+/// the stores that failed, and nothing else; a count ends at 2^64 - 1.
 pub trait Folder {
     /// Whether it tells what it holds. No call changes this.
     ghost is_told: { Self → Bool };

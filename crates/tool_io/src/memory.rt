@@ -1,7 +1,7 @@
 ghost use Rattle.std.specs.Prelude.{◌≡◌, ◌+◌, ◌-◌, ◌^◌, ◌<◌, ◌≤◌, ℕ, List, [], Contains, length, min, true, false, IfOk, OnOk, OnErr, IfSome, IfNone, None};
 ghost use Rattle.std.specs.Option.{option_copied};
-ghost use Rattle.tool_io.specs.Memory.{AreDistinct, IsPlaceOf, file_in, raised_count};
-ghost use Rattle.tool_io.specs.Outside.{HasLoadFailed, HasPutFailed, HasStoreFailed, LoadFails, LoadGives, PutCounts, PutFails, PutGives, PutTakes, SetsFile, StoreFails, StoreGives};
+ghost use Rattle.tool_io.specs.Memory.{AreDistinct, IsPlaceOf, file_in};
+ghost use Rattle.tool_io.specs.Outside.{HasLoadFailed, HasPutFailed, HasStoreFailed, LoadFails, LoadGives, PutCounts, PutFails, PutGives, PutTakes, SetsFile, StoreFails, StoreGives, raised_count};
 
 use crate::folder::{Folder, Load, Store};
 use crate::sink::{Put, Sink};

@@ -1,9 +1,10 @@
 ghost use Rattle.std.specs.Prelude.{◌≡◌};
-ghost use Rattle.tool_io.specs.Memory.{raised_count};
+ghost use Rattle.tool_io.specs.Outside.{raised_count};
 
 use crate::folder::{Folder, Load, Store};
 use crate::sink::{Put, Sink};
 use std::alloc::Global;
+use std::fs::{File, OpenFile, Permissions};
 use std::io::{ErrorKind, Read, Write};
 use std::rt::Files;
 use std::{fs, io};
@@ -11,7 +12,14 @@ use std::{fs, io};
 /// The greatest size of a file that is loaded, in bytes.
 const MOST_FILE: u64 = 16_777_216;
 
-/// The folder in which the tool was started. It tells nothing of what it holds. A file above 16 MiB counts as a fault.
+/// What is put behind a name for a file beside it, which isn't whole yet.
+const PART: &str = ".part";
+
+/// How many names beside a file are tried.
+const MOST_PARTS: u32 = 8;
+
+/// The folder in which the tool was started. It tells nothing of what it holds. A file above 16 MiB counts as a fault. Where a
+/// store fails, the file that was there is as it was: the new one is written beside it, and gets its name when it is whole.
 #[derive(Drop)]
 pub struct DiskFolder<'a, H> {
     rt: &'a H,
@@ -41,6 +49,68 @@ fn read_file<H: Files>(rt: &H, alloc: Global, name: &str) -> io::Result<Option<V
         Ok(None)
     } else {
         Ok(Some(bytes))
+    }
+}
+
+/// A new file beside this one, and its name. Names that are in use are passed over.
+fn part_beside<H: Files>(rt: &H, alloc: Global, path: &str) -> io::Result<(String, H::File)> {
+    let mut name = String::from_str(alloc, path)?;
+    for _ in 0..MOST_PARTS {
+        name.push_str(PART)?;
+        match File::create_new(rt, name.as_str()) {
+            Ok(file) => return Ok((name, file)),
+            Err(e) if e.kind() == ErrorKind::AlreadyExists => {}
+            Err(e) => return Err(e),
+        }
+    }
+    Err(io::Error::from(ErrorKind::AlreadyExists))
+}
+
+/// Writes a new file to the disk, with the rights of the one that it replaces.
+fn fill<F: Write + OpenFile + Drop>(
+    mut file: F,
+    bytes: &[u8],
+    rights: Option<Permissions>,
+) -> io::Result<()> {
+    if let Some(rights) = rights {
+        file.set_permissions(rights)?;
+    }
+    file.write_all(bytes)?;
+    file.sync_all()
+}
+
+/// Puts these bytes under the name, at once or not at all.
+fn replace<H: Files>(
+    rt: &H,
+    alloc: Global,
+    path: &str,
+    bytes: &[u8],
+    rights: Option<Permissions>,
+) -> io::Result<()> {
+    let (part, file) = part_beside(rt, alloc, path)?;
+    let done = match fill(file, bytes, rights) {
+        Ok(()) => rt.rename(part.as_str(), path),
+        Err(e) => Err(e),
+    };
+    if done.is_err() {
+        let _ = rt.remove_file(part.as_str());
+    }
+    done
+}
+
+/// Stores a file: one that a link leads to under its own name, and what isn't a file, as a terminal, in place.
+fn store_file<H: Files>(rt: &H, alloc: Global, name: &str, bytes: &[u8]) -> io::Result<()> {
+    match rt.metadata(name) {
+        Ok(found) => {
+            if found.is_file() {
+                let path = rt.canonicalize(alloc, name)?;
+                replace(rt, alloc, path.as_str(), bytes, Some(found.permissions()))
+            } else {
+                fs::write(rt, name, bytes)
+            }
+        }
+        Err(e) if e.kind() == ErrorKind::NotFound => replace(rt, alloc, name, bytes, None),
+        Err(e) => Err(e),
     }
 }
 
@@ -84,9 +154,9 @@ impl<'a, H: Files> Folder for DiskFolder<'a, H> {
     }
 
     fn store(&mut self, alloc: Global, name: &str, bytes: &[u8]) -> Store {
-        let _ = alloc;
-        match fs::write(self.rt, name, bytes) {
+        match store_file(self.rt, alloc, name, bytes) {
             Ok(()) => Store::Stored,
+            Err(e) if e.kind() == ErrorKind::OutOfMemory => Store::NoMemory,
             Err(_) => {
                 self.store_faults = raised(self.store_faults);
                 Store::Failed

@@ -1,5 +1,5 @@
 ghost use Rattle.std.specs.Prelude.{◌≡◌, ◌≤◌, ℕ, Bool, List, ◌++◌, IsTrue, OnOk, OnErr};
-ghost use Rattle.tool_io.specs.Outside.{HasRisen, PutFails, PutGives, PutTakes, TakesPrefix};
+ghost use Rattle.tool_io.specs.Outside.{PutFails, PutGives, PutTakes, TakesPrefix, raised_count};
 
 /// What a put answers.
 #[derive(Clone, Copy, Debug, PartialEq, Eq)]
@@ -14,8 +14,8 @@ pub enum Put {
 #[derive(Clone, Copy, Debug, PartialEq, Eq)]
 pub struct SinkFault;
 
-/// Where the tool prints. It may tell the bytes that it took so far; a real one doesn't. It counts the puts that failed; the
-/// count ends at 2^64 - 1.
+/// Where the tool prints. It may tell the bytes that it took so far; a real one doesn't. It counts the puts that failed, and
+/// nothing else; the count ends at 2^64 - 1.
 pub trait Sink {
     /// Whether it tells what it took. No call changes this.
     ghost is_told: { Self → Bool };
@@ -33,13 +33,14 @@ pub trait Sink {
         ensures failed { PutFails (faults self.old) (faults self.new) result };
 }
 
-/// Puts all bytes, in as many pieces as the sink takes them. It takes no memory.
+/// Puts all bytes, in as many pieces as the sink takes them. The first put that fails is the last one. It takes no memory.
 pub fn put_all<O: Sink>(out: &mut O, bytes: &[u8]) -> Result<(), SinkFault>
     ensures told { O.is_told out.new ≡ O.is_told out.old }
     ensures ok { OnOk result (IsTrue (O.is_told out.old) → O.taken out.new ≡ O.taken out.old ++ bytes.now) }
     ensures err { OnErr result (TakesPrefix (O.is_told out.old) (O.taken out.old) (O.taken out.new) bytes.now) }
     ensures counted { O.faults out.old ≤ O.faults out.new }
-    ensures failed { OnErr result (HasRisen (O.faults out.old) (O.faults out.new)) }
+    ensures none { OnOk result (O.faults out.new ≡ O.faults out.old) }
+    ensures failed { OnErr result (O.faults out.new ≡ raised_count (O.faults out.old)) }
 {
     let mut done = 0;
     while done < bytes.len() {

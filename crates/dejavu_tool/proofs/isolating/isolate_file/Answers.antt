@@ -23,7 +23,7 @@ returns-in_err-failing-clause-halts g c =
       told = sym (c.load_schedule.ensures.told ∙ c.load_program.ensures.told);
       before = λ n. sym (c.load_schedule.ensures.reads.files n ∙ c.load_program.ensures.reads.files n);
     })
-    (omega (arith, c.load_program.ensures.reads.loads, c.load_schedule.ensures.reads.loads))
+    (sym (c.in_ok-passing.ensures.counts ∙ c.in_ok-shaped.ensures.counts))
     refl
     (λ t n. c.load_schedule-2.ensures.reads.files n ∙ c.load_schedule.ensures.reads.files n ∙ c.load_program.ensures.reads.files n)
     (program_earlier first whole c.args.program.now c.in_ok-shaped.shaped (record { told = refl; before = λ n. refl }) c.in_ok-shaped.ensures.loads)

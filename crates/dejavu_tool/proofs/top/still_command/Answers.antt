@@ -4,10 +4,10 @@ use Rattle.dejavu_tool.proofs.Completing.{is_complete}
 use Rattle.dejavu_tool.proofs.top.still_command.Goals as goal
 
 pub returns-clause-recording : goal.returns-clause-recording
-returns-clause-recording g c = recording_holds _ _ _ _ c.answered.ensures
+returns-clause-recording g c = recording_holds _ _ _ _ c.answered.ensures.answer
 
 pub returns-clause-replay : goal.returns-clause-replay
-returns-clause-replay g c = replay_holds _ _ _ _ c.answered.ensures
+returns-clause-replay g c = replay_holds _ _ _ _ c.answered.ensures.answer
 
 pub returns-clause-complete : goal.returns-clause-complete
-returns-clause-complete g c = is_complete _ _ _ _ c.answered.ensures
+returns-clause-complete g c = is_complete _ _ _ _ c.answered.ensures.answer

@@ -17,5 +17,5 @@ loop-done-preserved g c =
           ∙ ap (λ (xs : List ℕ). xs ++ take c.in-Taken.count (drop c.loop-done.done c.args.bytes.now)) (c.loop-done.invariant.taken h)
           ∙ append_assoc (g.O.Sink.taken c.args.out.now) (take c.loop-done.done c.args.bytes.now) (take c.in-Taken.count (drop c.loop-done.done c.args.bytes.now))
           ∙ ap (λ (xs : List ℕ). g.O.Sink.taken c.args.out.now ++ xs) (take-split c.args.bytes.now c.loop-done.done c.in-Taken.count);
-      counted = omega (arith, c.put.ensures.counted, c.loop-done.invariant.counted);
+      faults = c.in-Taken.ensures.failed ∙ c.loop-done.invariant.faults;
     }

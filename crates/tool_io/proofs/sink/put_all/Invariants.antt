@@ -9,7 +9,7 @@ invariant-loop-done g l =
       within : l.done ≤ length l.bytes;
       told : g.O.Sink.is_told l.out ≡ g.O.Sink.is_told l.initial.out;
       taken : IsTrue (g.O.Sink.is_told l.initial.out) → g.O.Sink.taken l.out ≡ g.O.Sink.taken l.initial.out ++ take l.done l.bytes;
-      counted : g.O.Sink.faults l.initial.out ≤ g.O.Sink.faults l.out;
+      faults : g.O.Sink.faults l.out ≡ g.O.Sink.faults l.initial.out;
     }
 
 abbrev pub decreases-loop-done : goal.decreases-loop-done
