@@ -1,4 +1,5 @@
 pub mod Examples
+pub mod Locks
 pub mod Rings
 pub mod Runs
 pub mod Picks

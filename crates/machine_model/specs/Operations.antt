@@ -67,6 +67,11 @@ abbrev pub is_array : Option HeapItem → Bool
 is_array None = false
 is_array (Some item) = is_none item.class
 
+-- an object, whatever its class
+abbrev pub is_any_object : Option HeapItem → Bool
+is_any_object None = false
+is_any_object (Some item) = is_some item.class
+
 abbrev pub is_lock : SharedState → Lock → Bool
 is_lock s l = is_some (monitor_at s.monitors l)
 
@@ -175,7 +180,7 @@ is_enabled d s t (op.Resume l count) = may_resume s t l count && is_free_lock s 
 is_enabled d s t (op.Notify l) = is_ready s t && is_lock s l
 is_enabled d s t (op.NotifyAll l) = is_ready s t && is_lock s l
 is_enabled d s t (op.Start target) = is_ready s t && (is_object s target && is_thread_class d target.class)
-is_enabled d s t (op.Join obj) = is_ready s t && (nat_lt obj (length s.heap) && not (is_running s obj))
+is_enabled d s t (op.Join obj) = is_ready s t && (is_any_object (slice_get s.heap obj) && not (is_running s obj))
 is_enabled d s t (op.Print what newline) = is_ready s t && is_piece d what
 is_enabled d s t op.Yield = is_ready s t
 is_enabled d s t op.Tick = is_ready s t

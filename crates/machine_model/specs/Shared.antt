@@ -48,10 +48,10 @@ abbrev pub monitor_at : Monitors → Lock → Option Monitor
 monitor_at ms (lock.Object id) = slice_get ms.objects id
 monitor_at ms (lock.Class class) = if nat_le FIRST_USER_CLASS class then slice_get ms.classes (class - FIRST_USER_CLASS) else None
 
--- the monitors with this one for the lock, and all others as they were
+-- the monitors with this one for the lock, if there is such a lock, and all others as they were
 abbrev pub with_monitor : Monitors → Lock → Monitor → Monitors
 with_monitor ms (lock.Object id) m = record { objects = slice_set ms.objects id m; classes = ms.classes }
-with_monitor ms (lock.Class class) m = record { objects = ms.objects; classes = slice_set ms.classes (class - FIRST_USER_CLASS) m }
+with_monitor ms (lock.Class class) m = if nat_le FIRST_USER_CLASS class then record { objects = ms.objects; classes = slice_set ms.classes (class - FIRST_USER_CLASS) m } else ms
 
 abbrev pub is_thread_number : Option ℕ → ℕ → Bool
 is_thread_number None t = false

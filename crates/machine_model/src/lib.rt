@@ -1,6 +1,8 @@
 //! The definitions of the machine: local steps, the shared world, turns, runs and ends. They stand in `specs/`; here are
-//! the few plain types that they share with the code.
+//! the few plain types that they share with the code, and laws of the monitors.
 #![tactic(auto)]
+
+pub mod laws;
 
 use vm_model::{Lock, ObjRef};
 

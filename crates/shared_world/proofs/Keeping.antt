@@ -63,15 +63,27 @@ found_within n ms l m found w = subst (λ (o : Option Monitor). MatchOption o (U
 
 with_monitor_within : (n : ℕ) (ms : Monitors) (l : Lock) (m : Monitor) → AreWithin n ms → IsWithin n m → AreWithin n (with_monitor ms l m)
 with_monitor_within n ms (lock.Object id) m w h = (all_set (IsWithin n) ms.objects id m w.0 h, w.1)
-with_monitor_within n ms (lock.Class class) m w h = (w.0, all_set (IsWithin n) ms.classes (class - 32) m w.1 h)
+with_monitor_within n ms (lock.Class class) m w h = by_class (nat_le 32 class)
+  where
+    by_class : (b : Bool) → AreWithin n (if b then record { objects = ms.objects; classes = slice_set ms.classes (class - 32) m } else ms)
+    by_class true = (w.0, all_set (IsWithin n) ms.classes (class - 32) m w.1 h)
+    by_class false = w
 
 with_monitor-objects : (ms : Monitors) (l : Lock) (m : Monitor) → length (with_monitor ms l m).objects ≡ length ms.objects
 with_monitor-objects ms (lock.Object id) m = length-set ms.objects id m
-with_monitor-objects ms (lock.Class class) m = refl
+with_monitor-objects ms (lock.Class class) m = by_class (nat_le 32 class)
+  where
+    by_class : (b : Bool) → length (if b then record { objects = ms.objects; classes = slice_set ms.classes (class - 32) m } else ms).objects ≡ length ms.objects
+    by_class true = refl
+    by_class false = refl
 
 with_monitor-classes : (ms : Monitors) (l : Lock) (m : Monitor) → length (with_monitor ms l m).classes ≡ length ms.classes
 with_monitor-classes ms (lock.Object id) m = refl
-with_monitor-classes ms (lock.Class class) m = length-set ms.classes (class - 32) m
+with_monitor-classes ms (lock.Class class) m = by_class (nat_le 32 class)
+  where
+    by_class : (b : Bool) → length (if b then record { objects = ms.objects; classes = slice_set ms.classes (class - 32) m } else ms).classes ≡ length ms.classes
+    by_class true = length-set ms.classes (class - 32) m
+    by_class false = refl
 
 kept_monitor : (d : Declarations) (n : ℕ) (s : SharedState) (l : Lock) (m : Monitor) → IsKept d n s → IsWithin n m → IsKept d n (set_monitor s l m)
 kept_monitor d n s l m k h = record {

@@ -97,7 +97,7 @@ impl State {
             }
             Op::Join { obj } => {
                 rows::is_ready(self.rows(), thread)
-                    && (obj < self.objects() && !rows::is_running(self.rows(), obj))
+                    && (self.is_any_object(obj) && !rows::is_running(self.rows(), obj))
             }
             Op::Print { piece, .. } => {
                 rows::is_ready(self.rows(), thread) && start.is_piece(piece)

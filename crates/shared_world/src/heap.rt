@@ -91,7 +91,7 @@ fn copied(alloc: Global, items: &[Item]) -> Result<Vec<Item>, NoMemory>
 
 impl Heap {
     ghost use Rattle.machine_model.specs.Shared.{words_of};
-    ghost use Rattle.machine_model.specs.Operations.{is_item_of, is_array_of, is_array, word_in, put_word};
+    ghost use Rattle.machine_model.specs.Operations.{is_item_of, is_any_object, is_array_of, is_array, word_in, put_word};
     ghost use Rattle.shared_world.specs.HeapTypes.{has_words};
 
     /// No object and no array.
@@ -127,6 +127,16 @@ impl Heap {
                 Some(class) => class == obj.class,
                 None => false,
             },
+            None => false,
+        }
+    }
+
+    /// Whether there is an object of this id, whatever its class.
+    pub fn is_any_object(&self, id: u32) -> bool
+        ensures { result ≡ is_any_object (slice_get self.now.items id) }
+    {
+        match self.items.get(id as usize) {
+            Some(item) => item.class().is_some(),
             None => false,
         }
     }

@@ -88,7 +88,7 @@ fn append(output: &mut Vec<u8>, bytes: &[u8], end: &[u8]) -> Result<(), NoMemory
 
 impl State {
     ghost use Rattle.machine_model.specs.Shared.{start as first_state, words_of, is_live_row, exited, waited, one_notified, all_notified, monitor_at};
-    ghost use Rattle.machine_model.specs.Operations.{is_enabled, is_ready, is_object, is_there, may_resume, word_in, word_at, put_word, has_room, with_item, set_monitor, as_owner, answers, enter, resume, notify_rows, release_all, end_thread, begin, print, printed, make, apply, set_row, free_for, free_lock, is_array, is_array_of};
+    ghost use Rattle.machine_model.specs.Operations.{is_enabled, is_ready, is_object, is_there, may_resume, word_in, word_at, put_word, has_room, with_item, set_monitor, as_owner, answers, enter, resume, notify_rows, release_all, end_thread, begin, print, printed, make, apply, set_row, free_for, free_lock, is_any_object, is_array, is_array_of};
     ghost use Rattle.monitor_table.specs.Locks.{monitor_of};
     ghost use Rattle.shared_world.specs.Kept.{AreWithin};
     ghost use Rattle.shared_world.specs.Worlds.{takes_memory};
@@ -187,6 +187,13 @@ impl State {
         ensures { result ≡ is_object self.now obj }
     {
         self.heap.is_object(obj)
+    }
+
+    /// Whether there is an object of this id, whatever its class.
+    pub fn is_any_object(&self, id: u32) -> bool
+        ensures { result ≡ is_any_object (slice_get self.now.heap id) }
+    {
+        self.heap.is_any_object(id)
     }
 
     /// Whether there is an array of this id.
