@@ -76,7 +76,7 @@ fn event_of(
     ensures budget { world.new.budget ≡ world.old.budget }
     ensures memory { OnErr result (AddsAtMostOne world.old.history thread world.new.history) }
 {
-    let Ok(reply) = world.apply(alloc, thread, op) else {
+    let Ok(reply) = world.make(alloc, thread, op) else {
         return Err(NoMemory);
     };
     go_on(locals, alloc, plain, thread as usize, reply)?;

@@ -1,25 +1,18 @@
-// What is kept in statics, objects, arrays and monitors.
-ghost use Rattle.std.specs.Prelude.{◌≡◌, ◌<◌, ◌≤◌, ◌^◌, length, false};
-ghost use Rattle.vm_model.specs.declared.limits.TheConstants.{MOST_TEXT_BYTES};
+// What is kept in statics, objects, arrays and monitors. The tests for null, for bounds and for a negative length come first.
+ghost use Rattle.std.specs.Prelude.{◌≡◌, ◌<◌, ◌≤◌, ◌^◌, true};
 ghost use Rattle.machine_model.specs.Effect.{effect};
 ghost use Rattle.machine_model.specs.Operands.{as_index, as_length, Asks};
 ghost use Rattle.local_machine.specs.Acts.{plain, acted_of, after};
-ghost use Rattle.local_machine.specs.Families.{is_arithmetic, is_jump, is_moving};
+ghost use Rattle.local_machine.specs.Families.{is_of_array, is_of_field, is_of_monitor, is_of_static};
 
 use crate::acted::Acted;
-use crate::calling::calling;
 use crate::frame::Frame;
 use vm_model::{FaultKind, Instr, Lock, ObjRef, Op, Program, Value};
 
-/// What the instruction does, if no family before this one has it. Here are those that read or write a static, a field or an
-/// array, make an object or an array, or work on a monitor (JVMS SE 8 §2.11.5, §2.11.10). The tests for null, for bounds and
-/// for a negative length come first.
-pub fn accessing(frame: &mut Frame, program: &Program, instr: Instr) -> Acted
+/// Reads or writes a static, or makes an object (JVMS SE 8 §6.5 `getstatic`, `putstatic`, `new`).
+pub fn of_static(frame: &mut Frame, program: &Program, instr: Instr) -> Acted
+    requires family { is_of_static instr ≡ true }
     requires place { frame.old.place < 2 ^ 31 }
-    requires few { length program.now.methods ≤ MOST_TEXT_BYTES }
-    requires not_moving { is_moving instr ≡ false }
-    requires not_arithmetic { is_arithmetic instr ≡ false }
-    requires no_jump { is_jump instr ≡ false }
     ensures acted { result ≡ acted_of (effect program.now instr (plain frame.old)) }
     ensures room { frame.old.stack.room ≤ frame.new.stack.room }
     ensures frame { plain frame.new ≡ after (effect program.now instr (plain frame.old)) (plain frame.old) }
@@ -30,6 +23,20 @@ pub fn accessing(frame: &mut Frame, program: &Program, instr: Instr) -> Acted
             Some(value) => Acted::Asks(Op::PutStatic { slot, value }, 1),
             None => Acted::Undefined,
         },
+        Instr::New(class) => Acted::Asks(Op::New { class }, 0),
+        _ => unreachable!(),
+    }
+}
+
+/// Reads or writes a field (JVMS SE 8 §6.5 `getfield`, `putfield`).
+pub fn of_field(frame: &mut Frame, program: &Program, instr: Instr) -> Acted
+    requires family { is_of_field instr ≡ true }
+    requires place { frame.old.place < 2 ^ 31 }
+    ensures acted { result ≡ acted_of (effect program.now instr (plain frame.old)) }
+    ensures room { frame.old.stack.room ≤ frame.new.stack.room }
+    ensures frame { plain frame.new ≡ after (effect program.now instr (plain frame.old)) (plain frame.old) }
+{
+    match instr {
         Instr::GetField { place, .. } => match frame.stack.peek(0) {
             Some(Value::Obj { id, class }) => {
                 let obj = ObjRef { id, class };
@@ -46,6 +53,19 @@ pub fn accessing(frame: &mut Frame, program: &Program, instr: Instr) -> Acted
             (Some(Value::Null), Some(_)) => Acted::Fails(FaultKind::NullPointer),
             _ => Acted::Undefined,
         },
+        _ => unreachable!(),
+    }
+}
+
+/// Reads or writes an item of an array, or makes an array (JVMS SE 8 §6.5 `iaload`, `iastore`, `newarray`).
+pub fn of_array(frame: &mut Frame, program: &Program, instr: Instr) -> Acted
+    requires family { is_of_array instr ≡ true }
+    requires place { frame.old.place < 2 ^ 31 }
+    ensures acted { result ≡ acted_of (effect program.now instr (plain frame.old)) }
+    ensures room { frame.old.stack.room ≤ frame.new.stack.room }
+    ensures frame { plain frame.new ≡ after (effect program.now instr (plain frame.old)) (plain frame.old) }
+{
+    match instr {
         Instr::Iaload => match (frame.stack.peek(1), frame.stack.peek_int(0)) {
             (Some(Value::Arr { id, len }), Some(i)) => load(id, len, i),
             (Some(Value::Null), Some(_)) => Acted::Fails(FaultKind::NullPointer),
@@ -60,52 +80,34 @@ pub fn accessing(frame: &mut Frame, program: &Program, instr: Instr) -> Acted
             (Some(Value::Null), Some(_), Some(_)) => Acted::Fails(FaultKind::NullPointer),
             _ => Acted::Undefined,
         },
-        Instr::New(class) => Acted::Asks(Op::New { class }, 0),
         Instr::NewArray => match frame.stack.peek_int(0) {
             Some(n) => new_array(n),
             None => Acted::Undefined,
         },
-        Instr::MonitorEnter => match frame.stack.peek(0) {
-            Some(Value::Obj { id, .. } | Value::Arr { id, .. }) => {
-                let lock = Lock::Object(id);
-                Acted::Asks(Op::Enter { lock }, 1)
-            }
-            Some(Value::Null) => Acted::Fails(FaultKind::NullPointer),
-            _ => Acted::Undefined,
-        },
-        Instr::MonitorExit => match frame.stack.peek(0) {
-            Some(Value::Obj { id, .. } | Value::Arr { id, .. }) => {
-                let lock = Lock::Object(id);
-                Acted::Asks(Op::Exit { lock }, 1)
-            }
-            Some(Value::Null) => Acted::Fails(FaultKind::NullPointer),
-            _ => Acted::Undefined,
-        },
-        Instr::Wait => match frame.stack.peek(0) {
-            Some(Value::Obj { id, .. } | Value::Arr { id, .. }) => {
-                let lock = Lock::Object(id);
-                Acted::Asks(Op::Wait { lock }, 1)
-            }
-            Some(Value::Null) => Acted::Fails(FaultKind::NullPointer),
-            _ => Acted::Undefined,
-        },
-        Instr::Notify => match frame.stack.peek(0) {
-            Some(Value::Obj { id, .. } | Value::Arr { id, .. }) => {
-                let lock = Lock::Object(id);
-                Acted::Asks(Op::Notify { lock }, 1)
-            }
-            Some(Value::Null) => Acted::Fails(FaultKind::NullPointer),
-            _ => Acted::Undefined,
-        },
-        Instr::NotifyAll => match frame.stack.peek(0) {
-            Some(Value::Obj { id, .. } | Value::Arr { id, .. }) => {
-                let lock = Lock::Object(id);
-                Acted::Asks(Op::NotifyAll { lock }, 1)
-            }
-            Some(Value::Null) => Acted::Fails(FaultKind::NullPointer),
-            _ => Acted::Undefined,
-        },
-        _ => calling(frame, program, instr),
+        _ => unreachable!(),
+    }
+}
+
+/// Works on the monitor of an object or an array (JVMS SE 8 §2.11.10, and `wait`, `notify` and `notifyAll` of `Object`).
+pub fn of_monitor(frame: &mut Frame, program: &Program, instr: Instr) -> Acted
+    requires family { is_of_monitor instr ≡ true }
+    requires place { frame.old.place < 2 ^ 31 }
+    ensures acted { result ≡ acted_of (effect program.now instr (plain frame.old)) }
+    ensures room { frame.old.stack.room ≤ frame.new.stack.room }
+    ensures frame { plain frame.new ≡ after (effect program.now instr (plain frame.old)) (plain frame.old) }
+{
+    let lock = match frame.stack.peek(0) {
+        Some(Value::Obj { id, .. } | Value::Arr { id, .. }) => Lock::Object(id),
+        Some(Value::Null) => return Acted::Fails(FaultKind::NullPointer),
+        _ => return Acted::Undefined,
+    };
+    match instr {
+        Instr::MonitorEnter => Acted::Asks(Op::Enter { lock }, 1),
+        Instr::MonitorExit => Acted::Asks(Op::Exit { lock }, 1),
+        Instr::Wait => Acted::Asks(Op::Wait { lock }, 1),
+        Instr::Notify => Acted::Asks(Op::Notify { lock }, 1),
+        Instr::NotifyAll => Acted::Asks(Op::NotifyAll { lock }, 1),
+        _ => unreachable!(),
     }
 }
 

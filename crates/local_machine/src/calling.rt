@@ -1,35 +1,26 @@
 // Calls, returns, and what the class library does.
-ghost use Rattle.std.specs.Prelude.{◌≡◌, ◌<◌, ◌≤◌, ◌^◌, length, false};
+ghost use Rattle.std.specs.Prelude.{◌≡◌, ◌<◌, ◌≤◌, ◌^◌, length, true};
 ghost use Rattle.vm_model.specs.declared.limits.TheConstants.{MOST_TEXT_BYTES};
 ghost use Rattle.vm_model.specs.Program.{method_at};
 ghost use Rattle.machine_model.specs.Effect.{effect, calls_on, calls_static, run_method as model_run_method, lock_if as model_lock_if};
 ghost use Rattle.machine_model.specs.Operands.{as_stream, Asks};
 ghost use Rattle.local_machine.specs.Acts.{plain, acted_of, after};
-ghost use Rattle.local_machine.specs.Families.{is_access, is_arithmetic, is_jump, is_moving};
+ghost use Rattle.local_machine.specs.Families.{is_call, is_constructor, is_of_thread, is_print, is_return};
 
 use crate::acted::Acted;
 use crate::frame::Frame;
 use vm_model::{FaultKind, Instr, Lock, ObjRef, Op, Piece, Program, Value};
 
-/// What the instruction does, if no family before this one has it: it calls or returns, throws, or stands for a method of the
-/// class library (JVMS SE 8 §2.11.8).
-pub fn calling(frame: &mut Frame, program: &Program, instr: Instr) -> Acted
+/// Calls a method, on the object below its arguments where it isn't static (JVMS SE 8 §2.11.8).
+pub fn call(frame: &mut Frame, program: &Program, instr: Instr) -> Acted
+    requires family { is_call instr ≡ true }
     requires place { frame.old.place < 2 ^ 31 }
     requires few { length program.now.methods ≤ MOST_TEXT_BYTES }
-    requires not_moving { is_moving instr ≡ false }
-    requires not_arithmetic { is_arithmetic instr ≡ false }
-    requires no_jump { is_jump instr ≡ false }
-    requires no_access { is_access instr ≡ false }
     ensures acted { result ≡ acted_of (effect program.now instr (plain frame.old)) }
     ensures room { frame.old.stack.room ≤ frame.new.stack.room }
     ensures frame { plain frame.new ≡ after (effect program.now instr (plain frame.old)) (plain frame.old) }
 {
     match instr {
-        Instr::Athrow => match frame.stack.peek(0) {
-            Some(Value::Obj { class, .. }) => Acted::Fails(FaultKind::Thrown(class)),
-            Some(Value::Null) => Acted::Fails(FaultKind::NullPointer),
-            _ => Acted::Undefined,
-        },
         Instr::InvokeStatic(m) => call_static(frame, program, m),
         Instr::InvokeVirtual(m) | Instr::InvokeSpecial(m) => call_on(frame, program, m),
         Instr::RunOf(_) => match frame.stack.peek(0) {
@@ -39,6 +30,46 @@ pub fn calling(frame: &mut Frame, program: &Program, instr: Instr) -> Acted
             Some(Value::Null) => Acted::Fails(FaultKind::NullPointer),
             _ => Acted::Undefined,
         },
+        _ => unreachable!(),
+    }
+}
+
+/// Gives back to the caller, or throws (JVMS SE 8 §6.5 `return`, `athrow`).
+pub fn give(frame: &mut Frame, program: &Program, instr: Instr) -> Acted
+    requires family { is_return instr ≡ true }
+    requires place { frame.old.place < 2 ^ 31 }
+    ensures acted { result ≡ acted_of (effect program.now instr (plain frame.old)) }
+    ensures room { frame.old.stack.room ≤ frame.new.stack.room }
+    ensures frame { plain frame.new ≡ after (effect program.now instr (plain frame.old)) (plain frame.old) }
+{
+    match instr {
+        Instr::Return => Acted::Gives(None),
+        Instr::Ireturn => match frame.stack.peek_int(0) {
+            Some(n) => Acted::Gives(Some(Value::Int(n))),
+            None => Acted::Undefined,
+        },
+        Instr::Areturn => match frame.stack.peek(0) {
+            Some(v) => Acted::Gives(Some(v)),
+            None => Acted::Undefined,
+        },
+        Instr::Athrow => match frame.stack.peek(0) {
+            Some(Value::Obj { class, .. }) => Acted::Fails(FaultKind::Thrown(class)),
+            Some(Value::Null) => Acted::Fails(FaultKind::NullPointer),
+            _ => Acted::Undefined,
+        },
+        _ => unreachable!(),
+    }
+}
+
+/// Starts, joins or yields: methods of `Thread`.
+pub fn of_thread(frame: &mut Frame, program: &Program, instr: Instr) -> Acted
+    requires family { is_of_thread instr ≡ true }
+    requires place { frame.old.place < 2 ^ 31 }
+    ensures acted { result ≡ acted_of (effect program.now instr (plain frame.old)) }
+    ensures room { frame.old.stack.room ≤ frame.new.stack.room }
+    ensures frame { plain frame.new ≡ after (effect program.now instr (plain frame.old)) (plain frame.old) }
+{
+    match instr {
         Instr::Start => match frame.stack.peek(0) {
             Some(Value::Obj { id, class }) => {
                 let target = ObjRef { id, class };
@@ -53,6 +84,19 @@ pub fn calling(frame: &mut Frame, program: &Program, instr: Instr) -> Acted
             _ => Acted::Undefined,
         },
         Instr::Yield => Acted::Asks(Op::Yield, 0),
+        _ => unreachable!(),
+    }
+}
+
+/// A constructor of the class library. That of `Thread` with a `Runnable` keeps it in the object's first field.
+pub fn construct(frame: &mut Frame, program: &Program, instr: Instr) -> Acted
+    requires family { is_constructor instr ≡ true }
+    requires place { frame.old.place < 2 ^ 31 }
+    ensures acted { result ≡ acted_of (effect program.now instr (plain frame.old)) }
+    ensures room { frame.old.stack.room ≤ frame.new.stack.room }
+    ensures frame { plain frame.new ≡ after (effect program.now instr (plain frame.old)) (plain frame.old) }
+{
+    match instr {
         Instr::Init { text: true, .. } => match frame.stack.pair() {
             (Some(Value::Obj { .. }), Some(_)) | (Some(Value::Arr { .. }), Some(_)) => frame.take(
                 2,
@@ -80,34 +124,38 @@ pub fn calling(frame: &mut Frame, program: &Program, instr: Instr) -> Acted
             (Some(Value::Null), Some(_)) => Acted::Fails(FaultKind::NullPointer),
             _ => Acted::Undefined,
         },
+        _ => unreachable!(),
+    }
+}
+
+/// Prints a number, a text or nothing: methods of `PrintStream`.
+pub fn print(frame: &mut Frame, program: &Program, instr: Instr) -> Acted
+    requires family { is_print instr ≡ true }
+    requires place { frame.old.place < 2 ^ 31 }
+    ensures acted { result ≡ acted_of (effect program.now instr (plain frame.old)) }
+    ensures room { frame.old.stack.room ≤ frame.new.stack.room }
+    ensures frame { plain frame.new ≡ after (effect program.now instr (plain frame.old)) (plain frame.old) }
+{
+    match instr {
         Instr::Println => match frame.stack.peek(0) {
-            Some(v) => print(v, Piece::Nothing, true, 1),
+            Some(v) => print_on(v, Piece::Nothing, true, 1),
             None => Acted::Undefined,
         },
         Instr::PrintInt { newline } => match (frame.stack.peek(1), frame.stack.peek_int(0)) {
-            (Some(v), Some(n)) => print(v, Piece::Int(n), newline, 2),
+            (Some(v), Some(n)) => print_on(v, Piece::Int(n), newline, 2),
             _ => Acted::Undefined,
         },
         Instr::PrintText { newline } => match frame.stack.pair() {
-            (Some(v), Some(Value::Text(text))) => print(v, Piece::Text(text), newline, 2),
-            (Some(v), Some(Value::Null)) => print(v, Piece::Null, newline, 2),
+            (Some(v), Some(Value::Text(text))) => print_on(v, Piece::Text(text), newline, 2),
+            (Some(v), Some(Value::Null)) => print_on(v, Piece::Null, newline, 2),
             _ => Acted::Undefined,
-        },
-        Instr::Return => Acted::Gives(None),
-        Instr::Ireturn => match frame.stack.peek_int(0) {
-            Some(n) => Acted::Gives(Some(Value::Int(n))),
-            None => Acted::Undefined,
-        },
-        Instr::Areturn => match frame.stack.peek(0) {
-            Some(v) => Acted::Gives(Some(v)),
-            None => Acted::Undefined,
         },
         _ => unreachable!(),
     }
 }
 
 /// A print of this piece on that stream, which takes so many operands.
-fn print(stream: Value, piece: Piece, newline: bool, taken: usize) -> Acted
+fn print_on(stream: Value, piece: Piece, newline: bool, taken: usize) -> Acted
     ensures { result ≡ acted_of (as_stream stream (Asks (Op.Print piece newline) taken)) }
 {
     match stream {

@@ -74,6 +74,17 @@ impl Frame {
         Acted::Goes
     }
 
+    /// Takes so many operands, puts a number on top, and goes on to the next place.
+    pub fn put_int(&mut self, taken: usize, number: i32) -> Acted
+        requires place { self.old.place < 2 ^ 31 }
+        requires room { length self.old.stack.values < self.old.stack.room }
+        ensures acted { result ≡ Acted.Goes }
+        ensures room { self.old.stack.room ≤ self.new.stack.room }
+        ensures frame { plain self.new ≡ next (plain self.old) (Value.Int number ∷ drop taken self.old.stack.values) }
+    {
+        self.put(taken, Value::Int(number))
+    }
+
     /// Takes so many operands, and goes on to that place where the test holds, else to the next one.
     pub fn branch(&mut self, taken: usize, holds: bool, to: u32) -> Acted
         requires { self.old.place < 2 ^ 31 }
@@ -106,6 +117,16 @@ impl Frame {
         } else {
             Acted::Undefined
         }
+    }
+
+    /// Takes so many operands, writes a number to a local, and goes on to the next place; undefined where there is no such local.
+    pub fn store_int(&mut self, taken: usize, local: u32, number: i32) -> Acted
+        requires { self.old.place < 2 ^ 31 }
+        ensures acted { result ≡ acted_of (on_local (slice_get self.old.locals.items local) (λ _. Goes (store (plain self.old) local (Value.Int number) (drop taken self.old.stack.values)))) }
+        ensures room { self.old.stack.room ≤ self.new.stack.room }
+        ensures frame { plain self.new ≡ after (on_local (slice_get self.old.locals.items local) (λ _. Goes (store (plain self.old) local (Value.Int number) (drop taken self.old.stack.values)))) (plain self.old) }
+    {
+        self.store(taken, local, Value::Int(number))
     }
 
     /// The number in a local, if a number is there.

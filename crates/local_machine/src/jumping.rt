@@ -1,76 +1,70 @@
 // Jumps.
-ghost use Rattle.std.specs.Prelude.{◌≡◌, ◌+◌, ◌<◌, ◌≤◌, ◌^◌, length, false};
-ghost use Rattle.vm_model.specs.declared.limits.TheConstants.{MOST_TEXT_BYTES};
-ghost use Rattle.machine_model.specs.Kinds.{is_null as is_null_value};
+ghost use Rattle.std.specs.Prelude.{◌≡◌, ◌+◌, ◌<◌, ◌≤◌, ◌^◌, length, true};
 ghost use Rattle.machine_model.specs.Effect.{effect, same_reference as same_references};
 ghost use Rattle.local_machine.specs.Acts.{plain, acted_of, after};
-ghost use Rattle.local_machine.specs.Families.{is_arithmetic, is_moving};
+ghost use Rattle.local_machine.specs.Families.{is_jump_of_one, is_jump_of_two, is_jump_of_references};
+ghost use Rattle.machine_model.specs.Kinds.{is_null as is_null_value};
 
-use crate::accessing::accessing;
 use crate::acted::Acted;
 use crate::frame::Frame;
 use vm_model::{Instr, Program, Value};
 
-/// What the instruction does, if no family before this one has it. Here are the jumps (JVMS SE 8 §2.11.7).
-pub fn jumping(frame: &mut Frame, program: &Program, instr: Instr) -> Acted
+/// Jumps where a number stands so to zero (JVMS SE 8 §6.5 `if<cond>`).
+pub fn jump_of_one(frame: &mut Frame, program: &Program, instr: Instr) -> Acted
+    requires family { is_jump_of_one instr ≡ true }
     requires place { frame.old.place < 2 ^ 31 }
     requires room { length frame.old.stack.values + 2 ≤ frame.old.stack.room }
-    requires few { length program.now.methods ≤ MOST_TEXT_BYTES }
-    requires not_moving { is_moving instr ≡ false }
-    requires not_arithmetic { is_arithmetic instr ≡ false }
+    ensures acted { result ≡ acted_of (effect program.now instr (plain frame.old)) }
+    ensures room { frame.old.stack.room ≤ frame.new.stack.room }
+    ensures frame { plain frame.new ≡ after (effect program.now instr (plain frame.old)) (plain frame.old) }
+{
+    let Some(y) = frame.stack.peek_int(0) else {
+        return Acted::Undefined;
+    };
+    match instr {
+        Instr::Ifeq(to) => frame.branch(1, y == 0, to),
+        Instr::Ifne(to) => frame.branch(1, y != 0, to),
+        Instr::Iflt(to) => frame.branch(1, y < 0, to),
+        Instr::Ifge(to) => frame.branch(1, y >= 0, to),
+        Instr::Ifgt(to) => frame.branch(1, y > 0, to),
+        Instr::Ifle(to) => frame.branch(1, y <= 0, to),
+        _ => unreachable!(),
+    }
+}
+
+/// Jumps where two numbers stand so to each other (JVMS SE 8 §6.5 `if_icmp<cond>`).
+pub fn jump_of_two(frame: &mut Frame, program: &Program, instr: Instr) -> Acted
+    requires family { is_jump_of_two instr ≡ true }
+    requires place { frame.old.place < 2 ^ 31 }
+    requires room { length frame.old.stack.values + 2 ≤ frame.old.stack.room }
+    ensures acted { result ≡ acted_of (effect program.now instr (plain frame.old)) }
+    ensures room { frame.old.stack.room ≤ frame.new.stack.room }
+    ensures frame { plain frame.new ≡ after (effect program.now instr (plain frame.old)) (plain frame.old) }
+{
+    let (Some(x), Some(y)) = frame.stack.ints() else {
+        return Acted::Undefined;
+    };
+    match instr {
+        Instr::IfIcmpeq(to) => frame.branch(2, x == y, to),
+        Instr::IfIcmpne(to) => frame.branch(2, x != y, to),
+        Instr::IfIcmplt(to) => frame.branch(2, x < y, to),
+        Instr::IfIcmpge(to) => frame.branch(2, x >= y, to),
+        Instr::IfIcmpgt(to) => frame.branch(2, x > y, to),
+        Instr::IfIcmple(to) => frame.branch(2, x <= y, to),
+        _ => unreachable!(),
+    }
+}
+
+/// Jumps where references are null or one, or always (JVMS SE 8 §6.5 `if_acmp<cond>`, `ifnull`, `ifnonnull`, `goto`).
+pub fn jump_of_references(frame: &mut Frame, program: &Program, instr: Instr) -> Acted
+    requires family { is_jump_of_references instr ≡ true }
+    requires place { frame.old.place < 2 ^ 31 }
+    requires room { length frame.old.stack.values + 2 ≤ frame.old.stack.room }
     ensures acted { result ≡ acted_of (effect program.now instr (plain frame.old)) }
     ensures room { frame.old.stack.room ≤ frame.new.stack.room }
     ensures frame { plain frame.new ≡ after (effect program.now instr (plain frame.old)) (plain frame.old) }
 {
     match instr {
-        Instr::Ifeq(to) => match frame.stack.peek_int(0) {
-            Some(y) => frame.branch(1, y == 0, to),
-            None => Acted::Undefined,
-        },
-        Instr::Ifne(to) => match frame.stack.peek_int(0) {
-            Some(y) => frame.branch(1, y != 0, to),
-            None => Acted::Undefined,
-        },
-        Instr::Iflt(to) => match frame.stack.peek_int(0) {
-            Some(y) => frame.branch(1, y < 0, to),
-            None => Acted::Undefined,
-        },
-        Instr::Ifge(to) => match frame.stack.peek_int(0) {
-            Some(y) => frame.branch(1, y >= 0, to),
-            None => Acted::Undefined,
-        },
-        Instr::Ifgt(to) => match frame.stack.peek_int(0) {
-            Some(y) => frame.branch(1, y > 0, to),
-            None => Acted::Undefined,
-        },
-        Instr::Ifle(to) => match frame.stack.peek_int(0) {
-            Some(y) => frame.branch(1, y <= 0, to),
-            None => Acted::Undefined,
-        },
-        Instr::IfIcmpeq(to) => match frame.stack.ints() {
-            (Some(x), Some(y)) => frame.branch(2, x == y, to),
-            _ => Acted::Undefined,
-        },
-        Instr::IfIcmpne(to) => match frame.stack.ints() {
-            (Some(x), Some(y)) => frame.branch(2, x != y, to),
-            _ => Acted::Undefined,
-        },
-        Instr::IfIcmplt(to) => match frame.stack.ints() {
-            (Some(x), Some(y)) => frame.branch(2, x < y, to),
-            _ => Acted::Undefined,
-        },
-        Instr::IfIcmpge(to) => match frame.stack.ints() {
-            (Some(x), Some(y)) => frame.branch(2, x >= y, to),
-            _ => Acted::Undefined,
-        },
-        Instr::IfIcmpgt(to) => match frame.stack.ints() {
-            (Some(x), Some(y)) => frame.branch(2, x > y, to),
-            _ => Acted::Undefined,
-        },
-        Instr::IfIcmple(to) => match frame.stack.ints() {
-            (Some(x), Some(y)) => frame.branch(2, x <= y, to),
-            _ => Acted::Undefined,
-        },
         Instr::IfAcmpeq(to) => match frame.stack.pair() {
             (Some(v), Some(w)) => frame.branch(2, same_reference(v, w), to),
             _ => Acted::Undefined,
@@ -88,7 +82,7 @@ pub fn jumping(frame: &mut Frame, program: &Program, instr: Instr) -> Acted
             None => Acted::Undefined,
         },
         Instr::Goto(to) => frame.branch(0, true, to),
-        _ => accessing(frame, program, instr),
+        _ => unreachable!(),
     }
 }
 

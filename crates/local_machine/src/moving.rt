@@ -1,36 +1,48 @@
 // Constants, locals, and the order of operands.
-ghost use Rattle.std.specs.Prelude.{◌≡◌, ◌+◌, ◌<◌, ◌≤◌, ◌^◌, length};
-ghost use Rattle.vm_model.specs.declared.limits.TheConstants.{MOST_TEXT_BYTES};
+ghost use Rattle.std.specs.Prelude.{◌≡◌, ◌+◌, ◌<◌, ◌≤◌, ◌^◌, length, true};
 ghost use Rattle.machine_model.specs.Effect.{effect};
 ghost use Rattle.local_machine.specs.Acts.{plain, acted_of, after};
+ghost use Rattle.local_machine.specs.Families.{is_constant, is_of_local, is_order};
 
 use crate::acted::Acted;
-use crate::arithmetic::arithmetic;
 use crate::frame::Frame;
 use vm_model::{Instr, Program, Value};
 
-/// What the instruction does. Here are those that push a constant, read or write a local, or order operands (JVMS SE 8
-/// §2.11.2, §2.11.6).
-pub fn moving(frame: &mut Frame, program: &Program, instr: Instr) -> Acted
+/// Pushes a constant (JVMS SE 8 §2.11.2).
+pub fn constant(frame: &mut Frame, program: &Program, instr: Instr) -> Acted
+    requires family { is_constant instr ≡ true }
     requires place { frame.old.place < 2 ^ 31 }
     requires room { length frame.old.stack.values + 2 ≤ frame.old.stack.room }
-    requires few { length program.now.methods ≤ MOST_TEXT_BYTES }
+    ensures acted { result ≡ acted_of (effect program.now instr (plain frame.old)) }
+    ensures room { frame.old.stack.room ≤ frame.new.stack.room }
+    ensures frame { plain frame.new ≡ after (effect program.now instr (plain frame.old)) (plain frame.old) }
+{
+    let value = match instr {
+        Instr::Push(n) => Value::Int(n),
+        Instr::PushText(text) => Value::Text(text),
+        Instr::PushNull => Value::Null,
+        Instr::Out => Value::Stream,
+        _ => unreachable!(),
+    };
+    frame.put(0, value)
+}
+
+/// Reads or writes a local (JVMS SE 8 §2.11.2).
+pub fn of_local(frame: &mut Frame, program: &Program, instr: Instr) -> Acted
+    requires family { is_of_local instr ≡ true }
+    requires place { frame.old.place < 2 ^ 31 }
+    requires room { length frame.old.stack.values + 2 ≤ frame.old.stack.room }
     ensures acted { result ≡ acted_of (effect program.now instr (plain frame.old)) }
     ensures room { frame.old.stack.room ≤ frame.new.stack.room }
     ensures frame { plain frame.new ≡ after (effect program.now instr (plain frame.old)) (plain frame.old) }
 {
     match instr {
-        Instr::Nop => frame.take(0),
-        Instr::Push(n) => frame.put(0, Value::Int(n)),
-        Instr::PushText(text) => frame.put(0, Value::Text(text)),
-        Instr::PushNull => frame.put(0, Value::Null),
-        Instr::Out => frame.put(0, Value::Stream),
         Instr::Iload(i) => match frame.int_local(i) {
-            Some(n) => frame.put(0, Value::Int(n)),
+            Some(n) => frame.put_int(0, n),
             None => Acted::Undefined,
         },
         Instr::Istore(i) => match frame.stack.peek_int(0) {
-            Some(n) => frame.store(1, i, Value::Int(n)),
+            Some(n) => frame.store_int(1, i, n),
             None => Acted::Undefined,
         },
         Instr::Aload(i) => match frame.local(i) {
@@ -42,9 +54,24 @@ pub fn moving(frame: &mut Frame, program: &Program, instr: Instr) -> Acted
             None => Acted::Undefined,
         },
         Instr::Iinc { local, by } => match frame.int_local(local) {
-            Some(n) => frame.store(0, local, Value::Int(n.wrapping_add(by))),
+            Some(n) => frame.store_int(0, local, n.wrapping_add(by)),
             None => Acted::Undefined,
         },
+        _ => unreachable!(),
+    }
+}
+
+/// Orders, copies or drops operands, or does nothing (JVMS SE 8 §2.11.6).
+pub fn order(frame: &mut Frame, program: &Program, instr: Instr) -> Acted
+    requires family { is_order instr ≡ true }
+    requires place { frame.old.place < 2 ^ 31 }
+    requires room { length frame.old.stack.values + 2 ≤ frame.old.stack.room }
+    ensures acted { result ≡ acted_of (effect program.now instr (plain frame.old)) }
+    ensures room { frame.old.stack.room ≤ frame.new.stack.room }
+    ensures frame { plain frame.new ≡ after (effect program.now instr (plain frame.old)) (plain frame.old) }
+{
+    match instr {
+        Instr::Nop => frame.take(0),
         Instr::Pop => match frame.stack.peek(0) {
             Some(_) => frame.take(1),
             None => Acted::Undefined,
@@ -95,6 +122,6 @@ pub fn moving(frame: &mut Frame, program: &Program, instr: Instr) -> Acted
             }
             _ => Acted::Undefined,
         },
-        _ => arithmetic(frame, program, instr),
+        _ => unreachable!(),
     }
 }

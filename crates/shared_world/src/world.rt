@@ -98,12 +98,30 @@ impl World {
         if !self.shared.is_enabled(&self.start, thread, op) {
             return Err(ApplyFault::Blocked);
         }
+        match self.make(alloc, thread, op) {
+            Ok(reply) => Ok(reply),
+            Err(_) => Err(ApplyFault::NoMemory),
+        }
+    }
+
+    /// Does an operation of the thread that is known to be enabled, as `apply` does. After a refusal nothing is changed.
+    pub fn make(&mut self, alloc: Global, thread: u32, op: Op) -> Result<Reply, NoMemory>
+        requires room { length self.old.history < self.old.budget }
+        requires running { self.old.shared.fault ≡ None }
+        requires enabled { is_enabled self.old.declarations self.old.shared thread op ≡ true }
+        ensures reply { IfOk result (λ reply. reply ≡ (apply self.old.declarations self.old.shared thread op).reply) }
+        ensures world { OnOk result (self.new ≡ after self.old thread op) }
+        ensures refused { OnErr result (self.new ≡ self.old) }
+        ensures memory { OnErr result (IsTrue (takes_memory op)) }
+        ensures legal { IsLegalHistory self.new.declarations self.new.history self.new.shared }
+        ensures fits { IfOk result (λ reply. FirstValuesFit self.old.declarations → fits_reply self.old.declarations op reply ≡ true) }
+    {
         match self.shared.apply(alloc, &self.start, thread, op) {
             Ok(reply) => {
                 self.history.push_reserved(Entry { thread, op, reply });
                 Ok(reply)
             }
-            Err(_) => Err(ApplyFault::NoMemory),
+            Err(_) => Err(NoMemory),
         }
     }
 
