@@ -26,3 +26,6 @@ pub mod Weights
 pub mod Turns
 pub mod Settling
 pub mod Verdicts
+pub mod Unchanged
+pub mod Ending
+pub mod Depths

@@ -1,5 +1,6 @@
 pub mod Merging
 pub mod Judging
+pub mod Operands
 pub mod Passing
 pub mod Kept
 pub mod Answers

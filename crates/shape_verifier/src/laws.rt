@@ -1,9 +1,13 @@
 //! Laws of merging and of the pass. Each function does nothing: its contract is the law.
-ghost use Rattle.std.specs.Prelude.{◌≡◌, ◌<◌, ℕ, IsTrue, Bool, true, false, List, length, Option, Some, Result, Ok, Err};
+ghost use Rattle.std.specs.Prelude.{◌≡◌, ◌<◌, ◌≤◌, ◌++◌, ℕ, IsTrue, Bool, true, false, List, length, Option, Some, Result, Ok, Err};
 ghost use Rattle.vm_model.specs.Program.{PlainMethod, PlainProgram, instr_at, method_at};
 ghost use Rattle.vm_model.specs.declared.instr.Instr.{Instr};
-ghost use Rattle.machine_model.specs.Shapes.{Shape, Table, Flow, Takes, TakesAt, Follows, HasShapes, IsVerified, flow, shape_at};
+ghost use Rattle.vm_model.specs.declared.value.Kind.{Kind};
+ghost use Rattle.machine_model.specs.Shapes.{Shape, Table, Flow, Takes, TakesAt, Follows, HasShapes, IsVerified, flow, shape_at, with_stack};
 ghost use Rattle.shape_verifier.specs.declared.fault.Refusal.{Refusal};
+ghost use Rattle.shape_verifier.specs.declared.fault.ShapeKind.TheVariants.{Depth};
+ghost use Rattle.shape_verifier.specs.Judging.{judged, operands_of};
+ghost use Rattle.shape_verifier.specs.Operands.{over};
 ghost use Rattle.shape_verifier.specs.Merging.{merged_shape, takes};
 ghost use Rattle.shape_verifier.specs.Passing.{PassState, EndsWith, HasTable, begun, turned};
 ghost use Rattle.shape_verifier.specs.Kept.{IsBelow, IsBelowTable};
@@ -21,6 +25,20 @@ pub fn taking_is_an_order()
     ensures tested { (p : PlainProgram) (new old : Shape) → IsTrue (takes p new old) → Takes p new old }
     ensures itself { (p : PlainProgram) (s : Shape) → Takes p s s }
     ensures passes { (p : PlainProgram) (r s t : Shape) → Takes p r s → Takes p s t → Takes p r t }
+{}
+
+/// One shape takes another exactly where merging the first into the second leaves the second as it is.
+pub fn taking_is_merging_that_changes_nothing()
+    ensures taken { (p : PlainProgram) (new old : Shape) → Takes p new old → merged_shape p new old ≡ Ok old }
+    ensures unchanged { (p : PlainProgram) (new old : Shape) → length new.locals ≡ length old.locals → merged_shape p new old ≡ Ok old → Takes p new old }
+{}
+
+/// An instruction that finds fewer operands than it takes is refused with Depth, whatever those are that it finds, and no other
+/// one is. What is below the operands that it takes stays as it is.
+pub fn short_stack_is_depth()
+    ensures short { (p : PlainProgram) (n place : ℕ) (m : PlainMethod) (i : Instr) (s : Shape) → length s.stack < operands_of p i → judged p n m place i s ≡ Err Depth }
+    ensures only { (p : PlainProgram) (n place : ℕ) (m : PlainMethod) (i : Instr) (s : Shape) → judged p n m place i s ≡ Err Depth → length s.stack < operands_of p i }
+    ensures below { (p : PlainProgram) (n : ℕ) (i : Instr) (s : Shape) (below : List Kind) → operands_of p i ≤ length s.stack → flow p n i (with_stack s (s.stack ++ below)) ≡ over below (flow p n i s) }
 {}
 
 /// An instruction that a closed table follows from one shape, it follows from each shape that this one takes.
@@ -42,6 +60,11 @@ pub fn pass_that_stops_shows_none()
 /// A pass that ends gives a closed table.
 pub fn pass_that_ends_gives_table()
     ensures { (p : PlainProgram) (n : ℕ) (m : PlainMethod) (state : PassState) → method_at p n ≡ Some m → EndsWith p n m (Ok state) → HasTable p n }
+{}
+
+/// Each pass ends.
+pub fn pass_ends()
+    ensures { (p : PlainProgram) (n : ℕ) (m : PlainMethod) → (answer : Result PassState Refusal) × EndsWith p n m answer }
 {}
 
 /// A pass ends in one way only.

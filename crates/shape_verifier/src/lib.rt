@@ -15,7 +15,8 @@ mod verifying;
 
 pub use fault::{ShapeFault, ShapeKind};
 pub use laws::{
-    flow_is_monotone, merging_is_least, pass_ends_one_way, pass_stays_below,
-    pass_that_ends_gives_table, pass_that_stops_shows_none, tables_verify, taking_is_an_order,
+    flow_is_monotone, merging_is_least, pass_ends, pass_ends_one_way, pass_stays_below,
+    pass_that_ends_gives_table, pass_that_stops_shows_none, short_stack_is_depth, tables_verify,
+    taking_is_an_order, taking_is_merging_that_changes_nothing,
 };
 pub use verifying::{Room, Shaped, verify};
