@@ -47,9 +47,18 @@ fn compares(alloc: Global, case: &(Instr, Instr, Instr, bool)) -> Result<bool, N
     goes(alloc, first, second, jump, wanted)
 }
 
-/// Whether an instruction orders 1, 2 and 3, of which 3 is on top, as wanted, from the top; 0 stands for no value.
-fn orders(alloc: Global, case: &(Instr, [i32; 5])) -> Result<bool, NoMemory> {
-    let (instr, wanted) = *case;
+/// Whether these values are these numbers.
+fn are_numbers(values: &[Value], wanted: &[i32]) -> bool {
+    for (at, number) in wanted.iter().enumerate() {
+        if values.get(at).copied() != Some(Value::Int(*number)) {
+            return false;
+        }
+    }
+    values.len() == wanted.len()
+}
+
+/// Whether an instruction orders 1, 2 and 3, of which 3 is on top, as wanted, from the top.
+fn orders(alloc: Global, instr: Instr, wanted: &[i32]) -> Result<bool, NoMemory> {
     let code = [
         Instr::Push(1),
         Instr::Push(2),
@@ -63,16 +72,7 @@ fn orders(alloc: Global, case: &(Instr, [i32; 5])) -> Result<bool, NoMemory> {
         Instr::PutStatic(0),
     ];
     let values = put(alloc, &code)?;
-    let mut count = 0usize;
-    for n in &wanted {
-        if *n != 0 && values.get(count).copied() != Some(Value::Int(*n)) {
-            return Ok(false);
-        }
-        if *n != 0 && count < 5 {
-            count += 1;
-        }
-    }
-    Ok(values.len() == count)
+    Ok(are_numbers(&values, wanted))
 }
 
 /// Whether these instructions of main end in this fault at this place.
@@ -112,16 +112,48 @@ const NUMBERS: [(i32, i32, Instr, i32); 21] = [
     (12, -1, Instr::Ixor, -13),
 ];
 
-const ORDERS: [(Instr, [i32; 5]); 8] = [
-    (Instr::Nop, [3, 2, 1, 0, 0]),
-    (Instr::Pop, [2, 1, 0, 0, 0]),
-    (Instr::Pop2, [1, 0, 0, 0, 0]),
-    (Instr::Dup, [3, 3, 2, 1, 0]),
-    (Instr::DupX1, [3, 2, 3, 1, 0]),
-    (Instr::DupX2, [3, 2, 1, 3, 0]),
-    (Instr::Dup2, [3, 2, 3, 2, 1]),
-    (Instr::Swap, [2, 3, 1, 0, 0]),
+/// The first row that goes otherwise.
+fn wrong_in_numbers(alloc: Global) -> Result<Option<usize>, NoMemory> {
+    for (at, case) in NUMBERS.iter().enumerate() {
+        if !makes(alloc, case)? {
+            return Ok(Some(at));
+        }
+    }
+    Ok(None)
+}
+
+#[test]
+fn numbers(rt: HostRuntime) -> Result<(), Fail> {
+    assert_eq!(rt; wrong_in_numbers(rt.alloc())?, None);
+    Ok(())
+}
+
+const ORDERS: [(Instr, &[i32]); 8] = [
+    (Instr::Nop, &[3, 2, 1]),
+    (Instr::Pop, &[2, 1]),
+    (Instr::Pop2, &[1]),
+    (Instr::Dup, &[3, 3, 2, 1]),
+    (Instr::DupX1, &[3, 2, 3, 1]),
+    (Instr::DupX2, &[3, 2, 1, 3]),
+    (Instr::Dup2, &[3, 2, 3, 2, 1]),
+    (Instr::Swap, &[2, 3, 1]),
 ];
+
+/// The first row that goes otherwise.
+fn wrong_in_stack_orders(alloc: Global) -> Result<Option<usize>, NoMemory> {
+    for (at, (instr, wanted)) in ORDERS.iter().enumerate() {
+        if !orders(alloc, *instr, wanted)? {
+            return Ok(Some(at));
+        }
+    }
+    Ok(None)
+}
+
+#[test]
+fn stack_orders(rt: HostRuntime) -> Result<(), Fail> {
+    assert_eq!(rt; wrong_in_stack_orders(rt.alloc())?, None);
+    Ok(())
+}
 
 const JUMPS: [(i32, i32, Instr, bool); 30] = [
     (LEAST, GREATEST, Instr::IfIcmpeq(5), false),
@@ -155,6 +187,22 @@ const JUMPS: [(i32, i32, Instr, bool); 30] = [
     (9, 7, Instr::Goto(5), true),
     (9, 7, Instr::Nop, false),
 ];
+
+/// The first row that goes otherwise.
+fn wrong_in_jumps_on_numbers(alloc: Global) -> Result<Option<usize>, NoMemory> {
+    for (at, case) in JUMPS.iter().enumerate() {
+        if !jumps(alloc, case)? {
+            return Ok(Some(at));
+        }
+    }
+    Ok(None)
+}
+
+#[test]
+fn jumps_on_numbers(rt: HostRuntime) -> Result<(), Fail> {
+    assert_eq!(rt; wrong_in_jumps_on_numbers(rt.alloc())?, None);
+    Ok(())
+}
 
 const REFERENCES: [(Instr, Instr, Instr, bool); 12] = [
     (Instr::PushNull, Instr::PushNull, Instr::IfAcmpeq(5), true),
@@ -195,6 +243,22 @@ const REFERENCES: [(Instr, Instr, Instr, bool); 12] = [
     (Instr::Nop, Instr::PushNull, Instr::Ifnonnull(5), false),
     (Instr::Nop, Instr::PushText(0), Instr::Ifnonnull(5), true),
 ];
+
+/// The first row that goes otherwise.
+fn wrong_in_jumps_on_references(alloc: Global) -> Result<Option<usize>, NoMemory> {
+    for (at, case) in REFERENCES.iter().enumerate() {
+        if !compares(alloc, case)? {
+            return Ok(Some(at));
+        }
+    }
+    Ok(None)
+}
+
+#[test]
+fn jumps_on_references(rt: HostRuntime) -> Result<(), Fail> {
+    assert_eq!(rt; wrong_in_jumps_on_references(rt.alloc())?, None);
+    Ok(())
+}
 
 const FAULTS: [([Instr; 4], FaultKind, u32); 25] = [
     (
@@ -386,6 +450,22 @@ const FAULTS: [([Instr; 4], FaultKind, u32); 25] = [
     ),
 ];
 
+/// The first row that goes otherwise.
+fn wrong_in_faults(alloc: Global) -> Result<Option<usize>, NoMemory> {
+    for (at, case) in FAULTS.iter().enumerate() {
+        if !fails(alloc, case)? {
+            return Ok(Some(at));
+        }
+    }
+    Ok(None)
+}
+
+#[test]
+fn faults(rt: HostRuntime) -> Result<(), Fail> {
+    assert_eq!(rt; wrong_in_faults(rt.alloc())?, None);
+    Ok(())
+}
+
 // Without operands. Local 1 holds null, and the last local is 255.
 const LACKING: [Instr; 66] = [
     Instr::Pop,
@@ -468,27 +548,19 @@ const LACKING: [Instr; 66] = [
     Instr::PrintText { newline: true },
 ];
 
+/// The first row that goes otherwise.
+fn wrong_in_lacking_operands(alloc: Global) -> Result<Option<usize>, NoMemory> {
+    for (at, instr) in LACKING.iter().enumerate() {
+        if !asks(alloc, &[*instr], None)? {
+            return Ok(Some(at));
+        }
+    }
+    Ok(None)
+}
+
 #[test]
-fn single_instructions(rt: HostRuntime) -> Result<(), Fail> {
-    let alloc = rt.alloc();
-    for case in &NUMBERS {
-        assert!(rt; makes(alloc, case)?);
-    }
-    for case in &ORDERS {
-        assert!(rt; orders(alloc, case)?);
-    }
-    for case in &JUMPS {
-        assert!(rt; jumps(alloc, case)?);
-    }
-    for case in &REFERENCES {
-        assert!(rt; compares(alloc, case)?);
-    }
-    for case in &FAULTS {
-        assert!(rt; fails(alloc, case)?);
-    }
-    for instr in &LACKING {
-        assert!(rt; asks(alloc, &[*instr], None)?);
-    }
+fn lacking_operands(rt: HostRuntime) -> Result<(), Fail> {
+    assert_eq!(rt; wrong_in_lacking_operands(rt.alloc())?, None);
     Ok(())
 }
 
@@ -510,10 +582,13 @@ const LOCALS: [Instr; 13] = [
 
 const LOCAL_VALUES: [Value; 4] = [Value::Int(4), Value::Text(3), Value::Null, Value::Stream];
 
+fn are_locals_put(alloc: Global) -> Result<bool, NoMemory> {
+    let values = put(alloc, &LOCALS)?;
+    Ok(values.as_slice() == LOCAL_VALUES.as_slice())
+}
+
 #[test]
 fn locals(rt: HostRuntime) -> Result<(), Fail> {
-    let alloc = rt.alloc();
-    let values = put(alloc, &LOCALS)?;
-    assert!(rt; values.as_slice() == LOCAL_VALUES.as_slice());
+    assert!(rt; are_locals_put(rt.alloc())?);
     Ok(())
 }

@@ -13,6 +13,8 @@ mod logs;
 #[cfg(test)]
 mod monitors;
 #[cfg(test)]
+mod objects;
+#[cfg(test)]
 mod programs;
 #[cfg(test)]
 mod replays;

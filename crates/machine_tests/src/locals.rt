@@ -1,13 +1,15 @@
 // Threads by themselves, run against the expected operations. The expected values are those of JVMS SE 8 §6.5.
 ghost use Rattle.std.specs.Prelude.{◌≤◌, length, IfOk, OnOk};
+ghost use Rattle.std.specs.List.{AllByRecursion};
 ghost use Rattle.local_machine.specs.LocalView.{IsReady};
+ghost use Rattle.vm_model.specs.Program.{PlainMethod};
 
 use local_machine::Local;
 use std::alloc::Global;
 use std::test::Fail;
 use vm_model::{
-    Class, FaultKind, Instr, Kind, Lock, Method, Name, NoMemory, ObjRef, Op, Piece, Plain, Program,
-    Reply, Value,
+    Class, FaultKind, Instr, Kind, Lock, Method, Name, NoMemory, ObjRef, Op, Plain, Program, Reply,
+    Value,
 };
 
 /// A static method of class 33 with as many int parameters, and this code.
@@ -33,6 +35,32 @@ fn method(
     })
 }
 
+/// A main and one more method.
+fn methods_of(alloc: Global, main: Method, callee: Method) -> Result<Vec<Method>, NoMemory>
+    requires main { length main.code ≤ 64 }
+    requires callee { length callee.code ≤ 64 }
+    ensures { IfOk result (λ v. (length v.items ≤ 64) × AllByRecursion (λ (m : PlainMethod). length m.code ≤ 64) v.items) }
+{
+    let mut methods = Vec::new(alloc);
+    methods.push(main)?;
+    methods.push(callee)?;
+    Ok(methods)
+}
+
+/// The one class of the program, a class of threads whose run is the main.
+fn one_class(alloc: Global) -> Result<Vec<Class>, NoMemory> {
+    let class = Class {
+        name: Name::of(alloc, b"C")?,
+        is_thread: true,
+        is_runnable: false,
+        fields: Vec::new(alloc),
+        run: Some(0),
+    };
+    let mut classes = Vec::new(alloc);
+    classes.push(class)?;
+    Ok(classes)
+}
+
 /// A program of a main of this code and one more method, which is the last.
 fn program(
     alloc: Global,
@@ -44,17 +72,8 @@ fn program(
     requires callee { length callee.code ≤ 64 }
 {
     let main = method(alloc, &[Kind::Args], is_synchronized, main)?;
-    let mut methods = Vec::new(alloc);
-    methods.push(main)?;
-    methods.push(callee)?;
-    let mut classes = Vec::new(alloc);
-    classes.push(Class {
-        name: Name::of(alloc, b"C")?,
-        is_thread: true,
-        is_runnable: false,
-        fields: Vec::new(alloc),
-        run: Some(0),
-    })?;
+    let methods = methods_of(alloc, main, callee)?;
+    let classes = one_class(alloc)?;
     Ok(Plain::of(Program {
         classes,
         methods,
@@ -65,7 +84,7 @@ fn program(
 }
 
 /// A program of a main of this code alone, but for an empty method.
-fn main_alone(alloc: Global, main: &[Instr]) -> Result<Plain, NoMemory>
+pub fn main_alone(alloc: Global, main: &[Instr]) -> Result<Plain, NoMemory>
     requires { length main.now ≤ 64 }
 {
     let callee = method(alloc, &[], false, &[Instr::Return])?;
@@ -149,7 +168,7 @@ pub fn asks(alloc: Global, main: &[Instr], wanted: Option<Op>) -> Result<bool, N
 pub const LEAST: i32 = -2147483648;
 
 /// Whether the main thread of this program asks for this first, and then goes on by this script.
-fn plays(
+pub fn plays(
     alloc: Global,
     plain: &Plain,
     first: Op,
@@ -162,32 +181,69 @@ fn plays(
     follows(alloc, plain, &mut local, script)
 }
 
-/// The same of a main of this code, with no method to call.
-fn alone_plays(
-    alloc: Global,
-    main: &[Instr],
-    first: Op,
-    script: &[(Reply, Option<Op>)],
-) -> Result<bool, NoMemory>
-    requires { length main.now ≤ 64 }
-{
-    let plain = main_alone(alloc, main)?;
-    plays(alloc, &plain, first, script)
+/// A main by itself, and what its thread asks for first and then after each reply.
+pub struct Alone {
+    pub main: &'static [Instr],
+    pub first: Op,
+    pub script: &'static [(Reply, Option<Op>)],
 }
 
-/// The same of a main of this code that calls that method.
-fn calling_plays(
-    alloc: Global,
-    main: &[Instr],
-    callee: Method,
-    first: Op,
-    script: &[(Reply, Option<Op>)],
-) -> Result<bool, NoMemory>
-    requires main { length main.now ≤ 64 }
-    requires callee { length callee.code ≤ 64 }
-{
-    let plain = program(alloc, false, main, callee)?;
-    plays(alloc, &plain, first, script)
+fn plays_alone(alloc: Global, row: &Alone) -> Result<bool, NoMemory> {
+    if row.main.len() > 64 {
+        return Ok(false);
+    }
+    let plain = main_alone(alloc, row.main)?;
+    plays(alloc, &plain, row.first, row.script)
+}
+
+/// The first row that goes otherwise.
+pub fn wrong_alone(alloc: Global, rows: &[Alone]) -> Result<Option<usize>, NoMemory> {
+    for (at, row) in rows.iter().enumerate() {
+        if !plays_alone(alloc, row)? {
+            return Ok(Some(at));
+        }
+    }
+    Ok(None)
+}
+
+/// A main, the method that it calls, and what the thread asks for first and then after each reply.
+pub struct Calling {
+    pub is_main_synchronized: bool,
+    pub main: &'static [Instr],
+    pub params: &'static [Kind],
+    pub is_static: bool,
+    pub is_synchronized: bool,
+    pub code: &'static [Instr],
+    pub first: Op,
+    pub script: &'static [(Reply, Option<Op>)],
+}
+
+/// The program of a row; nothing where its code is too long for one.
+fn program_of(alloc: Global, row: &Calling) -> Result<Option<Plain>, NoMemory> {
+    if row.main.len() > 64 || row.code.len() > 64 {
+        return Ok(None);
+    }
+    let mut callee = method(alloc, row.params, row.is_synchronized, row.code)?;
+    callee.is_static = row.is_static;
+    let plain = program(alloc, row.is_main_synchronized, row.main, callee)?;
+    Ok(Some(plain))
+}
+
+fn plays_calling(alloc: Global, row: &Calling) -> Result<bool, NoMemory> {
+    match program_of(alloc, row)? {
+        Some(plain) => plays(alloc, &plain, row.first, row.script),
+        None => Ok(false),
+    }
+}
+
+/// The first row that goes otherwise.
+pub fn wrong_calling(alloc: Global, rows: &[Calling]) -> Result<Option<usize>, NoMemory> {
+    for (at, row) in rows.iter().enumerate() {
+        if !plays_calling(alloc, row)? {
+            return Ok(Some(at));
+        }
+    }
+    Ok(None)
 }
 
 const SUBTRACT: [Instr; 4] = [
@@ -205,7 +261,7 @@ const CALL_SUBTRACT: [Instr; 5] = [
     Instr::Return,
 ];
 
-const PUT_TWO: Op = Op::PutStatic {
+pub const PUT_TWO: Op = Op::PutStatic {
     slot: 0,
     value: Value::Int(2),
 };
@@ -235,33 +291,57 @@ const PUT_TEXT: Op = Op::PutStatic {
     value: Value::Text(3),
 };
 
+const CALLS: [Calling; 3] = [
+    Calling {
+        is_main_synchronized: false,
+        main: &CALL_SUBTRACT,
+        params: &[Kind::Int, Kind::Int],
+        is_static: true,
+        is_synchronized: false,
+        code: &SUBTRACT,
+        first: PUT_TWO,
+        script: &END,
+    },
+    Calling {
+        is_main_synchronized: false,
+        main: &[Instr::InvokeStatic(1)],
+        params: &[],
+        is_static: true,
+        is_synchronized: false,
+        code: &[Instr::Aload(2), Instr::PutStatic(0)],
+        first: PUT_NULL,
+        script: &[],
+    },
+    Calling {
+        is_main_synchronized: false,
+        main: &GIVE_BACK,
+        params: &[Kind::Null],
+        is_static: true,
+        is_synchronized: false,
+        code: &[Instr::Aload(0), Instr::Areturn],
+        first: PUT_TEXT,
+        script: &END,
+    },
+];
+
 #[test]
 fn calls(rt: HostRuntime) -> Result<(), Fail> {
-    let alloc = rt.alloc();
-    let callee = method(alloc, &[Kind::Int, Kind::Int], false, &SUBTRACT)?;
-    assert!(rt; calling_plays(alloc, &CALL_SUBTRACT, callee, PUT_TWO, &END)?);
-    let callee = method(alloc, &[], false, &[Instr::Aload(2), Instr::PutStatic(0)])?;
-    assert!(rt; calling_plays(alloc, &[Instr::InvokeStatic(1)], callee, PUT_NULL, &[])?);
-    let callee = method(
-        alloc,
-        &[Kind::Null],
-        false,
-        &[Instr::Aload(0), Instr::Areturn],
-    )?;
-    assert!(rt; calling_plays(alloc, &GIVE_BACK, callee, PUT_TEXT, &END)?);
+    assert_eq!(rt; wrong_calling(rt.alloc(), &CALLS)?, None);
     Ok(())
+}
+
+/// Whether a method that calls itself without end stops at the greatest number of calls.
+fn is_deep(alloc: Global) -> Result<bool, NoMemory> {
+    let callee = method(alloc, &[], false, &[Instr::InvokeStatic(1)])?;
+    let plain = program(alloc, false, &[Instr::InvokeStatic(1)], callee)?;
+    let local = begun(alloc, &plain)?;
+    let is_fault = local.operation() == Some(OVERFLOW);
+    Ok(is_fault && local.steps() == 255 && local.is_ready() && !local.is_ended())
 }
 
 #[test]
 fn deep_calls(rt: HostRuntime) -> Result<(), Fail> {
-    let alloc = rt.alloc();
-    let callee = method(alloc, &[], false, &[Instr::InvokeStatic(1)])?;
-    let plain = program(alloc, false, &[Instr::InvokeStatic(1)], callee)?;
-    let local = begun(alloc, &plain)?;
-    assert!(rt; local.operation() == Some(OVERFLOW));
-    assert!(rt; local.steps() == 255);
-    assert!(rt; local.is_ready());
-    assert!(rt; !local.is_ended());
+    assert!(rt; is_deep(rt.alloc())?);
     Ok(())
 }
 
@@ -289,15 +369,29 @@ const ONE_MORE: [Instr; 9] = [
     Instr::GetStatic(0),
 ];
 
-const GET: Op = Op::GetStatic { slot: 0 };
+pub const GET: Op = Op::GetStatic { slot: 0 };
+
+const TICKS: [Alone; 3] = [
+    Alone {
+        main: &[Instr::Goto(0)],
+        first: Op::Tick,
+        script: &[(Reply::Unit, Some(Op::Tick))],
+    },
+    Alone {
+        main: &EXACT,
+        first: GET,
+        script: &[],
+    },
+    Alone {
+        main: &ONE_MORE,
+        first: Op::Tick,
+        script: &[(Reply::Unit, Some(GET))],
+    },
+];
 
 #[test]
 fn ticks(rt: HostRuntime) -> Result<(), Fail> {
-    let alloc = rt.alloc();
-    let on = [(Reply::Unit, Some(Op::Tick))];
-    assert!(rt; alone_plays(alloc, &[Instr::Goto(0)], Op::Tick, &on)?);
-    assert!(rt; alone_plays(alloc, &EXACT, GET, &[])?);
-    assert!(rt; alone_plays(alloc, &ONE_MORE, Op::Tick, &[(Reply::Unit, Some(GET))])?);
+    assert_eq!(rt; wrong_alone(rt.alloc(), &TICKS)?, None);
     Ok(())
 }
 
@@ -319,422 +413,69 @@ const SYNCHRONIZED: [(Reply, Option<Op>); 6] = [
     (Reply::Unit, None),
 ];
 
+const IDENTITY: [Instr; 2] = [Instr::Iload(0), Instr::Ireturn];
+
+// Both methods are synchronized, and then the called one alone.
+const BOTH_SYNCHRONIZED: Calling = Calling {
+    is_main_synchronized: true,
+    main: &CALL_IDENTITY,
+    params: &[Kind::Int],
+    is_static: true,
+    is_synchronized: true,
+    code: &IDENTITY,
+    first: Op::Enter { lock: LOCK },
+    script: &SYNCHRONIZED,
+};
+
+const CALLEE_SYNCHRONIZED: Calling = Calling {
+    is_main_synchronized: false,
+    main: &CALL_IDENTITY,
+    params: &[Kind::Int],
+    is_static: true,
+    is_synchronized: true,
+    code: &IDENTITY,
+    first: Op::Enter { lock: LOCK },
+    script: &[],
+};
+
+/// Whether the thread enters the called method after its own.
+fn enters_both(alloc: Global) -> Result<bool, NoMemory> {
+    let Some(plain) = program_of(alloc, &BOTH_SYNCHRONIZED)? else {
+        return Ok(false);
+    };
+    let mut local = begun(alloc, &plain)?;
+    follows(alloc, &plain, &mut local, &SYNCHRONIZED[..1])
+}
+
 #[test]
 fn synchronized_methods(rt: HostRuntime) -> Result<(), Fail> {
     let alloc = rt.alloc();
-    let code = [Instr::Iload(0), Instr::Ireturn];
-    let callee = method(alloc, &[Kind::Int], true, &code)?;
-    let plain = program(alloc, true, &CALL_IDENTITY, callee)?;
-    assert!(rt; plays(alloc, &plain, Op::Enter { lock: LOCK }, &SYNCHRONIZED)?);
-    let mut local = begun(alloc, &plain)?;
-    assert!(rt; follows(alloc, &plain, &mut local, &SYNCHRONIZED[..1])?);
+    assert!(rt; plays_calling(alloc, &BOTH_SYNCHRONIZED)?);
+    assert!(rt; enters_both(alloc)?);
     Ok(())
+}
+
+/// Whether a copy goes on by itself, as this thread would.
+fn copy_goes_on(alloc: Global, plain: &Plain, local: &Local) -> Result<bool, NoMemory>
+    requires { IsReady plain.now local.now }
+{
+    let mut copy = local.copy(alloc)?;
+    follows(alloc, plain, &mut copy, &SYNCHRONIZED[1..3])
+}
+
+/// Whether the copy goes on, and the thread stays where it was.
+fn stays_behind(alloc: Global) -> Result<bool, NoMemory> {
+    let Some(plain) = program_of(alloc, &CALLEE_SYNCHRONIZED)? else {
+        return Ok(false);
+    };
+    let local = begun(alloc, &plain)?;
+    let goes_on = copy_goes_on(alloc, &plain, &local)?;
+    Ok(goes_on && local.operation() == Some(Op::Enter { lock: LOCK }))
 }
 
 #[test]
 fn copies(rt: HostRuntime) -> Result<(), Fail> {
-    let alloc = rt.alloc();
-    let code = [Instr::Iload(0), Instr::Ireturn];
-    let callee = method(alloc, &[Kind::Int], true, &code)?;
-    let plain = program(alloc, false, &CALL_IDENTITY, callee)?;
-    let local = begun(alloc, &plain)?;
-    let mut copy = local.copy(alloc)?;
-    assert!(rt; follows(alloc, &plain, &mut copy, &SYNCHRONIZED[1..3])?);
-    assert!(rt; local.operation() == Some(Op::Enter { lock: LOCK }));
-    Ok(())
-}
-
-// An array of 3 items, of which one is read, and then the one after the last.
-const ARRAY: [Instr; 9] = [
-    Instr::Push(3),
-    Instr::NewArray,
-    Instr::Dup,
-    Instr::Push(2),
-    Instr::Iaload,
-    Instr::Pop,
-    Instr::Dup,
-    Instr::ArrayLength,
-    Instr::Iaload,
-];
-
-const AFTER_LAST: Op = Op::Fault {
-    kind: FaultKind::ArrayIndex,
-    method: 0,
-    at: 8,
-};
-
-const ARRAY_REPLIES: [(Reply, Option<Op>); 3] = [
-    (
-        Reply::Made(Value::Arr { id: 4, len: 3 }),
-        Some(Op::ArrayLoad { arr: 4, index: 2 }),
-    ),
-    (Reply::Got(Value::Int(9)), Some(AFTER_LAST)),
-    (Reply::Unit, Some(AFTER_LAST)),
-];
-
-const WAIT: [Instr; 5] = [
-    Instr::New(32),
-    Instr::Dup,
-    Instr::Wait,
-    Instr::NotifyAll,
-    Instr::Return,
-];
-
-const MONITOR: Lock = Lock::Object(0);
-
-const WAIT_REPLIES: [(Reply, Option<Op>); 4] = [
-    (
-        Reply::Made(Value::Obj { id: 0, class: 32 }),
-        Some(Op::Wait { lock: MONITOR }),
-    ),
-    (
-        Reply::Waits(2),
-        Some(Op::Resume {
-            lock: MONITOR,
-            count: 2,
-        }),
-    ),
-    (Reply::Unit, Some(Op::NotifyAll { lock: MONITOR })),
-    (
-        Reply::Raise(FaultKind::MonitorState),
-        Some(Op::Fault {
-            kind: FaultKind::MonitorState,
-            method: 0,
-            at: 3,
-        }),
-    ),
-];
-
-const OBJECT: ObjRef = ObjRef { id: 7, class: 32 };
-
-const MADE: Reply = Reply::Made(Value::Obj { id: 7, class: 32 });
-
-const OWN_MONITOR: Lock = Lock::Object(7);
-
-const PUT_OBJECT: Op = Op::PutStatic {
-    slot: 0,
-    value: Value::Obj { id: 7, class: 32 },
-};
-
-const UNOWNED: Op = Op::Fault {
-    kind: FaultKind::MonitorState,
-    method: 0,
-    at: 2,
-};
-
-const STARTED_TWICE: Op = Op::Fault {
-    kind: FaultKind::ThreadState,
-    method: 0,
-    at: 3,
-};
-
-const THROWN_OBJECT: Op = Op::Fault {
-    kind: FaultKind::Thrown(32),
-    method: 0,
-    at: 4,
-};
-
-// After `New(32)` and `Dup`, four instructions each, and what the thread asks for and is answered, once the object is there.
-const OBJECTS: [([Instr; 4], [(Reply, Option<Op>); 3]); 11] = [
-    (
-        [
-            Instr::Push(5),
-            Instr::PutField {
-                class: 32,
-                place: 1,
-            },
-            Instr::GetField {
-                class: 32,
-                place: 2,
-            },
-            Instr::PutStatic(0),
-        ],
-        [
-            (
-                MADE,
-                Some(Op::PutField {
-                    obj: OBJECT,
-                    place: 1,
-                    value: Value::Int(5),
-                }),
-            ),
-            (
-                Reply::Unit,
-                Some(Op::GetField {
-                    obj: OBJECT,
-                    place: 2,
-                }),
-            ),
-            (Reply::Got(Value::Int(2)), Some(PUT_TWO)),
-        ],
-    ),
-    (
-        [
-            Instr::MonitorEnter,
-            Instr::MonitorExit,
-            Instr::Return,
-            Instr::Nop,
-        ],
-        [
-            (MADE, Some(Op::Enter { lock: OWN_MONITOR })),
-            (Reply::Unit, Some(Op::Exit { lock: OWN_MONITOR })),
-            (Reply::Unit, Some(Op::ThreadEnd)),
-        ],
-    ),
-    (
-        [Instr::MonitorExit, Instr::Pop, Instr::Return, Instr::Nop],
-        [
-            (MADE, Some(Op::Exit { lock: OWN_MONITOR })),
-            (Reply::Raise(FaultKind::MonitorState), Some(UNOWNED)),
-            (Reply::Unit, Some(UNOWNED)),
-        ],
-    ),
-    (
-        [Instr::Notify, Instr::NotifyAll, Instr::Return, Instr::Nop],
-        [
-            (MADE, Some(Op::Notify { lock: OWN_MONITOR })),
-            (Reply::Unit, Some(Op::NotifyAll { lock: OWN_MONITOR })),
-            (Reply::Unit, Some(Op::ThreadEnd)),
-        ],
-    ),
-    (
-        [Instr::Start, Instr::Join, Instr::Return, Instr::Nop],
-        [
-            (MADE, Some(Op::Start { target: OBJECT })),
-            (Reply::Began(1), Some(Op::Join { obj: 7 })),
-            (Reply::Unit, Some(Op::ThreadEnd)),
-        ],
-    ),
-    (
-        [Instr::Start, Instr::Start, Instr::Return, Instr::Nop],
-        [
-            (MADE, Some(Op::Start { target: OBJECT })),
-            (Reply::Began(1), Some(Op::Start { target: OBJECT })),
-            (Reply::Raise(FaultKind::ThreadState), Some(STARTED_TWICE)),
-        ],
-    ),
-    (
-        [
-            Instr::PushText(0),
-            Instr::Init {
-                class: 1,
-                text: true,
-            },
-            Instr::PutStatic(0),
-            Instr::Return,
-        ],
-        [
-            (MADE, Some(PUT_OBJECT)),
-            (Reply::Unit, Some(Op::ThreadEnd)),
-            (Reply::Unit, None),
-        ],
-    ),
-    (
-        [
-            Instr::Init {
-                class: 0,
-                text: false,
-            },
-            Instr::PutStatic(0),
-            Instr::Return,
-            Instr::Nop,
-        ],
-        [
-            (MADE, Some(PUT_OBJECT)),
-            (Reply::Unit, Some(Op::ThreadEnd)),
-            (Reply::Unit, None),
-        ],
-    ),
-    (
-        [
-            Instr::PushNull,
-            Instr::InitRunnable,
-            Instr::PutStatic(0),
-            Instr::Return,
-        ],
-        [
-            (
-                MADE,
-                Some(Op::PutField {
-                    obj: OBJECT,
-                    place: 0,
-                    value: Value::Null,
-                }),
-            ),
-            (Reply::Unit, Some(PUT_OBJECT)),
-            (Reply::Unit, Some(Op::ThreadEnd)),
-        ],
-    ),
-    (
-        [
-            Instr::IfAcmpeq(4),
-            Instr::Yield,
-            Instr::GetStatic(0),
-            Instr::Return,
-        ],
-        [
-            (MADE, Some(GET)),
-            (Reply::Got(Value::Null), Some(Op::ThreadEnd)),
-            (Reply::Unit, None),
-        ],
-    ),
-    (
-        [
-            Instr::Ifnonnull(4),
-            Instr::Yield,
-            Instr::Athrow,
-            Instr::Return,
-        ],
-        [
-            (MADE, Some(THROWN_OBJECT)),
-            (Reply::Unit, Some(THROWN_OBJECT)),
-            (Reply::Unit, Some(THROWN_OBJECT)),
-        ],
-    ),
-];
-
-/// Whether a thread goes on as wanted with a new object twice on its stack.
-fn works(alloc: Global, case: &([Instr; 4], [(Reply, Option<Op>); 3])) -> Result<bool, NoMemory> {
-    let ([a, b, c, d], script) = *case;
-    let code = [Instr::New(32), Instr::Dup, a, b, c, d];
-    alone_plays(alloc, &code, Op::New { class: 32 }, &script)
-}
-
-#[test]
-fn objects(rt: HostRuntime) -> Result<(), Fail> {
-    let alloc = rt.alloc();
-    for case in &OBJECTS {
-        assert!(rt; works(alloc, case)?);
-    }
-    Ok(())
-}
-
-// A call on an object, with 2 as the argument.
-const CALL_VIRTUAL: [Instr; 5] = [
-    Instr::New(32),
-    Instr::Push(2),
-    Instr::InvokeVirtual(1),
-    Instr::PutStatic(0),
-    Instr::Return,
-];
-
-const CALL_SPECIAL: [Instr; 5] = [
-    Instr::New(32),
-    Instr::Push(2),
-    Instr::InvokeSpecial(1),
-    Instr::PutStatic(0),
-    Instr::Return,
-];
-
-const PUT_AND_GIVE: [Instr; 4] = [
-    Instr::Aload(0),
-    Instr::PutStatic(0),
-    Instr::Iload(1),
-    Instr::Ireturn,
-];
-
-const CALLED: [(Reply, Option<Op>); 5] = [
-    (MADE, Some(Op::Enter { lock: OWN_MONITOR })),
-    (Reply::Unit, Some(PUT_OBJECT)),
-    (Reply::Unit, Some(Op::Exit { lock: OWN_MONITOR })),
-    (Reply::Unit, Some(PUT_TWO)),
-    (Reply::Unit, Some(Op::ThreadEnd)),
-];
-
-/// Whether a call on an object by this code goes on as wanted.
-fn calls_on_object(alloc: Global, main: &[Instr]) -> Result<bool, NoMemory>
-    requires { length main.now ≤ 64 }
-{
-    let mut callee = method(alloc, &[Kind::Int], true, &PUT_AND_GIVE)?;
-    callee.is_static = false;
-    calling_plays(alloc, main, callee, Op::New { class: 32 }, &CALLED)
-}
-
-#[test]
-fn calls_on_objects(rt: HostRuntime) -> Result<(), Fail> {
-    let alloc = rt.alloc();
-    assert!(rt; calls_on_object(alloc, &CALL_VIRTUAL)?);
-    assert!(rt; calls_on_object(alloc, &CALL_SPECIAL)?);
-    Ok(())
-}
-
-// An array of 3 items, of which the last is written, and then the one after it.
-const WRITES: [Instr; 9] = [
-    Instr::Push(3),
-    Instr::NewArray,
-    Instr::Dup,
-    Instr::Push(2),
-    Instr::Push(LEAST),
-    Instr::Iastore,
-    Instr::Push(3),
-    Instr::Push(9),
-    Instr::Iastore,
-];
-
-const WRITE_REPLIES: [(Reply, Option<Op>); 2] = [
-    (
-        Reply::Made(Value::Arr { id: 4, len: 3 }),
-        Some(Op::ArrayStore {
-            arr: 4,
-            index: 2,
-            value: LEAST,
-        }),
-    ),
-    (Reply::Unit, Some(AFTER_LAST)),
-];
-
-const PRINTS: [Instr; 12] = [
-    Instr::Out,
-    Instr::Println,
-    Instr::Out,
-    Instr::Push(LEAST),
-    Instr::PrintInt { newline: false },
-    Instr::Out,
-    Instr::PushNull,
-    Instr::PrintText { newline: true },
-    Instr::Out,
-    Instr::PushText(3),
-    Instr::PrintText { newline: false },
-    Instr::Return,
-];
-
-const PRINT_NOTHING: Op = Op::Print {
-    piece: Piece::Nothing,
-    newline: true,
-};
-
-const PRINT_REPLIES: [(Reply, Option<Op>); 4] = [
-    (
-        Reply::Unit,
-        Some(Op::Print {
-            piece: Piece::Int(LEAST),
-            newline: false,
-        }),
-    ),
-    (
-        Reply::Unit,
-        Some(Op::Print {
-            piece: Piece::Null,
-            newline: true,
-        }),
-    ),
-    (
-        Reply::Unit,
-        Some(Op::Print {
-            piece: Piece::Text(3),
-            newline: false,
-        }),
-    ),
-    (Reply::Unit, Some(Op::ThreadEnd)),
-];
-
-#[test]
-fn replies(rt: HostRuntime) -> Result<(), Fail> {
-    let alloc = rt.alloc();
-    assert!(rt; alone_plays(alloc, &ARRAY, Op::NewArray { len: 3 }, &ARRAY_REPLIES)?);
-    assert!(rt; alone_plays(alloc, &WRITES, Op::NewArray { len: 3 }, &WRITE_REPLIES)?);
-    assert!(rt; alone_plays(alloc, &PRINTS, PRINT_NOTHING, &PRINT_REPLIES)?);
-    assert!(rt; alone_plays(alloc, &WAIT, Op::New { class: 32 }, &WAIT_REPLIES)?);
+    assert!(rt; stays_behind(rt.alloc())?);
     Ok(())
 }
 
@@ -750,24 +491,39 @@ const THROWN: Op = Op::Fault {
 };
 
 // Class 32 has its own run, which is method 0. Class 1 has none, and takes the last method.
+const THROWS: Calling = Calling {
+    is_main_synchronized: false,
+    main: &[Instr::Aload(0), Instr::PutStatic(0)],
+    params: &[],
+    is_static: true,
+    is_synchronized: false,
+    code: &[Instr::Aload(0), Instr::Athrow],
+    first: PUT_OWN,
+    script: &[],
+};
+
+fn begins_own_run(alloc: Global, plain: &Plain) -> Result<bool, NoMemory> {
+    let mut own = Local::of_thread(alloc, plain, ObjRef { id: 3, class: 32 })?;
+    let is_begun = own.is_ready();
+    own.advance(alloc, plain)?;
+    Ok(!is_begun && own.operation() == Some(PUT_OWN))
+}
+
+fn begins_last_method(alloc: Global, plain: &Plain) -> Result<bool, NoMemory> {
+    let mut other = Local::of_thread(alloc, plain, ObjRef { id: 3, class: 1 })?;
+    other.advance(alloc, plain)?;
+    Ok(other.operation().is_some() && other.pending() == THROWN)
+}
+
+fn are_threads_started(alloc: Global) -> Result<bool, NoMemory> {
+    let Some(plain) = program_of(alloc, &THROWS)? else {
+        return Ok(false);
+    };
+    Ok(begins_own_run(alloc, &plain)? && begins_last_method(alloc, &plain)?)
+}
+
 #[test]
 fn started_threads(rt: HostRuntime) -> Result<(), Fail> {
-    let alloc = rt.alloc();
-    let callee = method(alloc, &[], false, &[Instr::Aload(0), Instr::Athrow])?;
-    let plain = program(
-        alloc,
-        false,
-        &[Instr::Aload(0), Instr::PutStatic(0)],
-        callee,
-    )?;
-    let mut own = Local::of_thread(alloc, &plain, ObjRef { id: 3, class: 32 })?;
-    assert!(rt; !own.is_ready());
-    own.advance(alloc, &plain)?;
-    assert!(rt; own.operation() == Some(PUT_OWN));
-    let mut other = Local::of_thread(alloc, &plain, ObjRef { id: 3, class: 1 })?;
-    other.advance(alloc, &plain)?;
-    let asked = other.operation();
-    assert!(rt; asked.is_some());
-    assert!(rt; other.pending() == THROWN);
+    assert!(rt; are_threads_started(rt.alloc())?);
     Ok(())
 }

@@ -43,81 +43,124 @@ fn is_refused(alloc: Global, bytes: &[u8], kind: LogKind, offset: u64) -> bool {
     }
 }
 
+// A place in the log of the workers, the byte that is put there, and the kind and place of the fault.
+const CHANGED: [(usize, u8, LogKind, u64); 16] = [
+    (0, 0x45, LogKind::Magic, 0),
+    (1, 0x4B, LogKind::Magic, 1),
+    (4, 0x00, LogKind::Version, 4),
+    (7, 0x41, LogKind::Limit, 5),
+    (8, 0x00, LogKind::Limit, 8),
+    (8, 0x41, LogKind::Limit, 8),
+    (8, 0x02, LogKind::Gap, 17),
+    (9, 0x03, LogKind::Overlap, 17),
+    (12, 0x00, LogKind::NotMaximal, 12),
+    (16, 0x03, LogKind::Overlap, 18),
+    (17, 0x00, LogKind::Limit, 17),
+    (18, 0x06, LogKind::Overlap, 18),
+    (18, 0x08, LogKind::Overlap, 18),
+    (19, 0x01, LogKind::Gap, 20),
+    (20, 0xF3, LogKind::BadEnd, 20),
+    (20, 0xF4, LogKind::BadEnd, 20),
+];
+
+fn is_change_refused(alloc: Global, case: &(usize, u8, LogKind, u64)) -> bool {
+    let (at, value, kind, offset) = *case;
+    let mut bytes = WORKERS;
+    if at >= 21 {
+        return false;
+    }
+    bytes[at] = value;
+    is_refused(alloc, &bytes, kind, offset)
+}
+
+/// The first row that is read otherwise.
+fn wrong_in_changed(alloc: Global) -> Option<usize> {
+    for (at, case) in CHANGED.iter().enumerate() {
+        if !is_change_refused(alloc, case) {
+            return Some(at);
+        }
+    }
+    None
+}
+
 #[test]
 fn one_byte_changed(rt: HostRuntime) {
-    let alloc = rt.alloc();
-    let cases: [(usize, u8, LogKind, u64); 16] = [
-        (0, 0x45, LogKind::Magic, 0),
-        (1, 0x4B, LogKind::Magic, 1),
-        (4, 0x00, LogKind::Version, 4),
-        (7, 0x41, LogKind::Limit, 5),
-        (8, 0x00, LogKind::Limit, 8),
-        (8, 0x41, LogKind::Limit, 8),
-        (8, 0x02, LogKind::Gap, 17),
-        (9, 0x03, LogKind::Overlap, 17),
-        (12, 0x00, LogKind::NotMaximal, 12),
-        (16, 0x03, LogKind::Overlap, 18),
-        (17, 0x00, LogKind::Limit, 17),
-        (18, 0x06, LogKind::Overlap, 18),
-        (18, 0x08, LogKind::Overlap, 18),
-        (19, 0x01, LogKind::Gap, 20),
-        (20, 0xF3, LogKind::BadEnd, 20),
-        (20, 0xF4, LogKind::BadEnd, 20),
-    ];
-    for (at, value, kind, offset) in cases {
-        let mut bytes = WORKERS;
-        if at < 21 {
-            bytes[at] = value;
+    assert_eq!(rt; wrong_in_changed(rt.alloc()), None);
+}
+
+const LONG: [u8; 22] = [
+    0x44, 0x4A, 0x56, 0x4C, 0x01, 0x80, 0x80, 0x40, 0x03, 0x02, 0x80, 0x00, 0x03, 0x06, 0x03, 0x01,
+    0x04, 0x02, 0x01, 0x07, 0x02, 0xF0,
+];
+
+const FIVE: [u8; 25] = [
+    0x44, 0x4A, 0x56, 0x4C, 0x01, 0x80, 0x80, 0x40, 0x03, 0x02, 0x00, 0x80, 0x80, 0x80, 0x80, 0x80,
+    0x06, 0x03, 0x01, 0x04, 0x02, 0x01, 0x07, 0x02, 0xF0,
+];
+
+const SMALL: [u8; 19] = [
+    0x44, 0x4A, 0x56, 0x4C, 0x01, 0x0D, 0x03, 0x02, 0x00, 0x03, 0x06, 0x03, 0x01, 0x04, 0x02, 0x01,
+    0x07, 0x02, 0xF0,
+];
+
+// Bytes that are no log, and the kind and place of their fault.
+const OTHERS: [(&[u8], LogKind, u64); 6] = [
+    (&LONG, LogKind::LongSpelling, 10),
+    (&FIVE, LogKind::Limit, 11),
+    (&SMALL, LogKind::Limit, 11),
+    (&[0x44, 0x4B], LogKind::Magic, 1),
+    (&[0x44, 0x4A], LogKind::Short, 2),
+    (&[], LogKind::Short, 0),
+];
+
+/// The first row that is read otherwise.
+fn wrong_in_others(alloc: Global) -> Option<usize> {
+    for (at, (bytes, kind, offset)) in OTHERS.iter().enumerate() {
+        if !is_refused(alloc, bytes, *kind, *offset) {
+            return Some(at);
         }
-        assert!(rt;
-            is_refused(alloc, &bytes, kind, offset),
-            "byte {at} as {value}"
-        );
     }
+    None
 }
 
 #[test]
 fn other_lengths(rt: HostRuntime) {
-    let alloc = rt.alloc();
-    let long = [
-        0x44, 0x4A, 0x56, 0x4C, 0x01, 0x80, 0x80, 0x40, 0x03, 0x02, 0x80, 0x00, 0x03, 0x06, 0x03,
-        0x01, 0x04, 0x02, 0x01, 0x07, 0x02, 0xF0,
-    ];
-    assert!(rt; is_refused(alloc, &long, LogKind::LongSpelling, 10));
-    let five = [
-        0x44, 0x4A, 0x56, 0x4C, 0x01, 0x80, 0x80, 0x40, 0x03, 0x02, 0x00, 0x80, 0x80, 0x80, 0x80,
-        0x80, 0x06, 0x03, 0x01, 0x04, 0x02, 0x01, 0x07, 0x02, 0xF0,
-    ];
-    assert!(rt; is_refused(alloc, &five, LogKind::Limit, 11));
-    let small = [
-        0x44, 0x4A, 0x56, 0x4C, 0x01, 0x0D, 0x03, 0x02, 0x00, 0x03, 0x06, 0x03, 0x01, 0x04, 0x02,
-        0x01, 0x07, 0x02, 0xF0,
-    ];
-    assert!(rt; is_refused(alloc, &small, LogKind::Limit, 11));
-    assert!(rt; is_refused(alloc, &[0x44, 0x4B], LogKind::Magic, 1));
-    assert!(rt; is_refused(alloc, &[0x44, 0x4A], LogKind::Short, 2));
-    assert!(rt; is_refused(alloc, &[], LogKind::Short, 0));
+    assert_eq!(rt; wrong_in_others(rt.alloc()), None);
+}
+
+/// Whether each proper front of the bytes is refused at its length.
+fn are_fronts_short(alloc: Global, bytes: &[u8]) -> bool {
+    for size in 0..bytes.len() {
+        if !is_refused(alloc, &bytes[..size], LogKind::Short, size as u64) {
+            return false;
+        }
+    }
+    true
 }
 
 /// Whether each proper front of the bytes is refused at its length, and the bytes with one more after them at theirs.
 fn is_whole(alloc: Global, bytes: &[u8]) -> Result<bool, NoMemory> {
-    let mut holds = true;
-    for size in 0..bytes.len() {
-        holds = holds && is_refused(alloc, &bytes[..size], LogKind::Short, size as u64);
-    }
     let mut longer = Vec::from_slice(alloc, bytes)?;
     longer.push(0)?;
-    Ok(holds && is_refused(alloc, &longer, LogKind::Trailing, bytes.len() as u64))
+    let is_trailing = is_refused(alloc, &longer, LogKind::Trailing, bytes.len() as u64);
+    Ok(is_trailing && are_fronts_short(alloc, bytes))
+}
+
+const LOGS: [&[u8]; 5] = [&SHORTEST, &SUM, &WORKERS, &DEADLOCK, &SPENT];
+
+/// The first log that is read otherwise where it is cut or longer.
+fn wrong_in_logs(alloc: Global) -> Result<Option<usize>, NoMemory> {
+    for (at, bytes) in LOGS.iter().enumerate() {
+        if !is_whole(alloc, bytes)? {
+            return Ok(Some(at));
+        }
+    }
+    Ok(None)
 }
 
 #[test]
 fn cut_or_longer(rt: HostRuntime) -> Result<(), Fail> {
-    let alloc = rt.alloc();
-    assert!(rt; is_whole(alloc, &SHORTEST)?);
-    assert!(rt; is_whole(alloc, &SUM)?);
-    assert!(rt; is_whole(alloc, &WORKERS)?);
-    assert!(rt; is_whole(alloc, &DEADLOCK)?);
-    assert!(rt; is_whole(alloc, &SPENT)?);
+    assert_eq!(rt; wrong_in_logs(rt.alloc())?, None);
     Ok(())
 }
 
@@ -133,54 +176,94 @@ fn is_log(alloc: Global, log: &Log, bytes: &[u8], threads: &[u32]) -> Result<boo
     )
 }
 
+const WORKERS_THREADS: [u32; 14] = [0, 0, 0, 0, 1, 1, 1, 2, 2, 2, 0, 0, 0, 0];
+
+const DEADLOCK_THREADS: [u32; 14] = [0, 0, 0, 0, 0, 0, 0, 0, 1, 1, 2, 2, 2, 1];
+
+const SPENT_THREADS: [u32; 5] = [0, 0, 0, 2, 0];
+
+/// The bytes of a log, and what is read from them.
+struct Read {
+    bytes: &'static [u8],
+    threads: &'static [u32],
+    budget: u64,
+    end: EndKind,
+}
+
+const LOGS_READ: [Read; 4] = [
+    Read {
+        bytes: &WORKERS,
+        threads: &WORKERS_THREADS,
+        budget: 1_048_576,
+        end: EndKind::Done,
+    },
+    Read {
+        bytes: &SUM,
+        threads: &[0; 23],
+        budget: 1_048_576,
+        end: EndKind::Done,
+    },
+    Read {
+        bytes: &DEADLOCK,
+        threads: &DEADLOCK_THREADS,
+        budget: 100,
+        end: EndKind::Stuck,
+    },
+    Read {
+        bytes: &SPENT,
+        threads: &SPENT_THREADS,
+        budget: 5,
+        end: EndKind::Spent,
+    },
+];
+
+fn is_read(alloc: Global, row: &Read) -> Result<bool, NoMemory> {
+    let Ok(log) = decode(alloc, row.bytes) else {
+        return Ok(false);
+    };
+    let is_same = is_log(alloc, &log, row.bytes, row.threads)?;
+    Ok(is_same && log.budget() == row.budget && log.end() == row.end)
+}
+
+/// The first row that is read or written otherwise.
+fn wrong_in_logs_read(alloc: Global) -> Result<Option<usize>, NoMemory> {
+    for (at, row) in LOGS_READ.iter().enumerate() {
+        if !is_read(alloc, row)? {
+            return Ok(Some(at));
+        }
+    }
+    Ok(None)
+}
+
+const TILES: [Interval; 3] = [
+    Interval {
+        thread: 0,
+        first: 0,
+        last: 2,
+    },
+    Interval {
+        thread: 2,
+        first: 3,
+        last: 3,
+    },
+    Interval {
+        thread: 0,
+        first: 4,
+        last: 4,
+    },
+];
+
+fn is_tiled(alloc: Global) -> bool {
+    match decode(alloc, &SPENT) {
+        Ok(log) => log.intervals() == TILES.as_slice(),
+        Err(_) => false,
+    }
+}
+
 #[test]
 fn read_and_written(rt: HostRuntime) -> Result<(), Fail> {
-    let alloc = rt.alloc();
-    let log = decode(alloc, &WORKERS)?;
-    assert!(rt;
-        is_log(
-            alloc,
-            &log,
-            &WORKERS,
-            &[0, 0, 0, 0, 1, 1, 1, 2, 2, 2, 0, 0, 0, 0]
-        )?
-    );
-    assert!(rt; log.budget() == 1_048_576);
-    assert!(rt; log.end() == EndKind::Done);
-    let log = decode(alloc, &SUM)?;
-    assert!(rt; is_log(alloc, &log, &SUM, &[0; 23])?);
-    let log = decode(alloc, &DEADLOCK)?;
-    assert!(rt;
-        is_log(
-            alloc,
-            &log,
-            &DEADLOCK,
-            &[0, 0, 0, 0, 0, 0, 0, 0, 1, 1, 2, 2, 2, 1]
-        )?
-    );
-    assert!(rt; log.budget() == 100);
-    assert!(rt; log.end() == EndKind::Stuck);
-    let log = decode(alloc, &SPENT)?;
-    assert!(rt; is_log(alloc, &log, &SPENT, &[0, 0, 0, 2, 0])?);
-    assert!(rt; log.end() == EndKind::Spent);
-    let tiles = [
-        Interval {
-            thread: 0,
-            first: 0,
-            last: 2,
-        },
-        Interval {
-            thread: 2,
-            first: 3,
-            last: 3,
-        },
-        Interval {
-            thread: 0,
-            first: 4,
-            last: 4,
-        },
-    ];
-    assert!(rt; log.intervals() == tiles.as_slice());
+    assert_eq!(rt; wrong_in_logs_read(rt.alloc())?, None);
+    assert!(rt; is_tiled(rt.alloc()));
     Ok(())
 }
 
@@ -205,18 +288,26 @@ fn recorded(alloc: Global, budget: u64, threads: &[u32], end: EndKind) -> Result
     Log::of(alloc, budget, parts, end)
 }
 
+fn are_workers_recorded(alloc: Global) -> Result<bool, NoMemory> {
+    let log = recorded(alloc, 1_048_576, &WORKERS_THREADS, EndKind::Done)?;
+    is_log(alloc, &log, &WORKERS, &WORKERS_THREADS)
+}
+
+fn is_deadlock_recorded(alloc: Global) -> Result<bool, NoMemory> {
+    let log = recorded(alloc, 100, &DEADLOCK_THREADS, EndKind::Stuck)?;
+    is_log(alloc, &log, &DEADLOCK, &DEADLOCK_THREADS)
+}
+
+fn is_spent_recorded(alloc: Global) -> Result<bool, NoMemory> {
+    let log = recorded(alloc, 5, &SPENT_THREADS, EndKind::Spent)?;
+    is_log(alloc, &log, &SPENT, &SPENT_THREADS)
+}
+
 #[test]
 fn recorded_and_written(rt: HostRuntime) -> Result<(), Fail> {
-    let alloc = rt.alloc();
-    let threads = [0, 0, 0, 0, 1, 1, 1, 2, 2, 2, 0, 0, 0, 0];
-    let log = recorded(alloc, 1_048_576, &threads, EndKind::Done)?;
-    assert!(rt; is_log(alloc, &log, &WORKERS, &threads)?);
-    let threads = [0, 0, 0, 0, 0, 0, 0, 0, 1, 1, 2, 2, 2, 1];
-    let log = recorded(alloc, 100, &threads, EndKind::Stuck)?;
-    assert!(rt; is_log(alloc, &log, &DEADLOCK, &threads)?);
-    let threads = [0, 0, 0, 2, 0];
-    let log = recorded(alloc, 5, &threads, EndKind::Spent)?;
-    assert!(rt; is_log(alloc, &log, &SPENT, &threads)?);
+    assert!(rt; are_workers_recorded(rt.alloc())?);
+    assert!(rt; is_deadlock_recorded(rt.alloc())?);
+    assert!(rt; is_spent_recorded(rt.alloc())?);
     Ok(())
 }
 
@@ -257,21 +348,29 @@ fn folded(rt: HostRuntime) -> Result<(), Fail> {
     Ok(())
 }
 
+const KINDS: [(LogKind, u8); 10] = [
+    (LogKind::Magic, 1),
+    (LogKind::Version, 2),
+    (LogKind::Short, 3),
+    (LogKind::LongSpelling, 4),
+    (LogKind::Overlap, 5),
+    (LogKind::Gap, 6),
+    (LogKind::NotMaximal, 7),
+    (LogKind::Limit, 8),
+    (LogKind::Trailing, 9),
+    (LogKind::BadEnd, 10),
+];
+
+fn wrong_in_kinds() -> Option<usize> {
+    for (at, (kind, number)) in KINDS.iter().enumerate() {
+        if kind.number() != *number {
+            return Some(at);
+        }
+    }
+    None
+}
+
 #[test]
 fn numbers_of_kinds(rt: HostRuntime) {
-    let kinds = [
-        (LogKind::Magic, 1),
-        (LogKind::Version, 2),
-        (LogKind::Short, 3),
-        (LogKind::LongSpelling, 4),
-        (LogKind::Overlap, 5),
-        (LogKind::Gap, 6),
-        (LogKind::NotMaximal, 7),
-        (LogKind::Limit, 8),
-        (LogKind::Trailing, 9),
-        (LogKind::BadEnd, 10),
-    ];
-    for (kind, number) in kinds {
-        assert!(rt; kind.number() == number);
-    }
+    assert_eq!(rt; wrong_in_kinds(), None);
 }
