@@ -25,6 +25,7 @@ pub mod LinkedProgram
 pub mod WrittenLines
 pub mod ReadNames
 pub mod ReadWritten
+pub mod ReadCountable
 pub mod First
 pub mod FaultLists
 pub mod NamedFault

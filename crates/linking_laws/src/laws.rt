@@ -1,7 +1,9 @@
 ghost use Rattle.std.specs.Prelude.{◌≡◌, ◌≢◌, ◌≤◌, ◌↔◌, ℕ, true, false, List, [], length, Ok, Err, IsOk, Some};
+ghost use Rattle.vm_model.specs.declared.limits.TheConstants.{MOST_TEXT_BYTES};
 ghost use Rattle.vm_model.specs.Program.{PlainMethod, PlainProgram, method_at};
 ghost use Rattle.vm_model.specs.Plain.{IsWithinBounds};
 ghost use Rattle.jasmin_text.specs.declared.token.Token.{Token};
+ghost use Rattle.jasmin_text.specs.Texts.{tokens_of};
 ghost use Rattle.jasmin_reader.specs.Plain.{PlainClassText};
 ghost use Rattle.jasmin_reader.specs.declared.lexeme.Lexeme.{Lexeme};
 ghost use Rattle.jasmin_reader.specs.Said.{PlainSaid};
@@ -94,9 +96,12 @@ pub fn named_fault_is_first()
 {}
 
 /// By the rules, which say which faults a text has, a case for each: linking names the fault that counts among those of a
-/// text, and gives a program exactly where there is none. Names are as the reader lets them through, and fewer than 2^31.
+/// text, and gives a program exactly where there is none. The first two laws are on classes whose names are as the reader lets
+/// them through, and of which fewer than 2^31 are declared, as of fields and methods. The other two are on the classes of each
+/// text of at most 1,048,576 bytes that is cut into tokens and read, which is every text that the program takes.
 pub fn linking_is_by_the_rules()
     ensures named { (classes : List PlainClassText) (f : Refusal) → AreNamed classes → IsCountable classes → (linking classes ≡ Err f) ↔ IsFirstFault classes f }
     ensures linked { (classes : List PlainClassText) → AreNamed classes → IsCountable classes → IsOk (linking classes) ↔ IsFaultless classes }
-    ensures read { (text : List ℕ) (tokens : List Token) (classes : List PlainClassText) (f : Refusal) → reading text tokens ≡ Ok classes → IsCountable classes → (linking classes ≡ Err f) ↔ IsFirstFault classes f }
+    ensures read { (text : List ℕ) (tokens : List Token) (classes : List PlainClassText) (f : Refusal) → length text ≤ MOST_TEXT_BYTES → tokens_of text ≡ Ok tokens → reading text tokens ≡ Ok classes → (linking classes ≡ Err f) ↔ IsFirstFault classes f }
+    ensures faultless { (text : List ℕ) (tokens : List Token) (classes : List PlainClassText) → length text ≤ MOST_TEXT_BYTES → tokens_of text ≡ Ok tokens → reading text tokens ≡ Ok classes → IsOk (linking classes) ↔ IsFaultless classes }
 {}
