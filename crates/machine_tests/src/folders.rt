@@ -2,12 +2,12 @@
 use std::alloc::Global;
 use std::test::Fail;
 use tool_io::{Folder, Load, MemoryFolder, MemorySink, Put, Sink, SinkFault, Store, put_all};
-use vm_model::Name;
+use vm_model::{Name, NoMemory};
 
-fn folder_of(alloc: Global, failing: &[u64]) -> Result<MemoryFolder, Fail> {
+fn folder_of(alloc: Global, failing: &[u64]) -> Result<MemoryFolder, NoMemory> {
     let mut files = Vec::new(alloc);
     files.push((Name::of(alloc, b"a")?, Vec::from_slice(alloc, b"one")?))?;
-    Ok(MemoryFolder::new(alloc, files, Vec::from_slice(alloc, failing)?)?)
+    MemoryFolder::new(alloc, files, Vec::from_slice(alloc, failing)?)
 }
 
 fn loads<F: Folder>(folder: &mut F, alloc: Global, name: &str, bytes: &[u8]) -> bool {
@@ -73,17 +73,31 @@ fn puts_are_taken(rt: HostRuntime) -> Result<(), Fail> {
     Ok(())
 }
 
+const DIGITS: &[u8] = b"0123456789";
+
+fn takes_short(alloc: Global) -> Result<bool, NoMemory> {
+    let mut sink = MemorySink::short(alloc, 3, Vec::new(alloc))?;
+    Ok(put_all(&mut sink, DIGITS) == Ok(()) && sink.taken() == DIGITS)
+}
+
+/// The put that fails is the fifth one.
+fn fails_after_digits(alloc: Global) -> Result<bool, NoMemory> {
+    let mut counted = MemorySink::short(alloc, 3, Vec::from_slice(alloc, &[4])?)?;
+    let is_first = put_all(&mut counted, DIGITS) == Ok(());
+    Ok(is_first && put_all(&mut counted, b"a") == Err(SinkFault))
+}
+
+/// The put that fails is the third one.
+fn fails_within_digits(alloc: Global) -> Result<bool, NoMemory> {
+    let mut failing = MemorySink::short(alloc, 3, Vec::from_slice(alloc, &[2])?)?;
+    let is_failed = put_all(&mut failing, DIGITS) == Err(SinkFault);
+    Ok(is_failed && failing.taken() == b"012345".as_slice())
+}
+
 #[test]
 fn short_puts_go_on(rt: HostRuntime) -> Result<(), Fail> {
-    let alloc = rt.alloc();
-    let mut sink = MemorySink::short(alloc, 3, Vec::new(alloc))?;
-    assert!(rt; put_all(&mut sink, b"0123456789") == Ok(()));
-    assert!(rt; sink.taken() == b"0123456789".as_slice());
-    let mut counted = MemorySink::short(alloc, 3, Vec::from_slice(alloc, &[4])?)?;
-    assert!(rt; put_all(&mut counted, b"0123456789") == Ok(()));
-    assert!(rt; put_all(&mut counted, b"a") == Err(SinkFault));
-    let mut failing = MemorySink::short(alloc, 3, Vec::from_slice(alloc, &[2])?)?;
-    assert!(rt; put_all(&mut failing, b"0123456789") == Err(SinkFault));
-    assert!(rt; failing.taken() == b"012345".as_slice());
+    assert!(rt; takes_short(rt.alloc())?);
+    assert!(rt; fails_after_digits(rt.alloc())?);
+    assert!(rt; fails_within_digits(rt.alloc())?);
     Ok(())
 }

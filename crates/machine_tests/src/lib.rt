@@ -3,6 +3,8 @@
 #![tactic(auto)]
 
 #[cfg(test)]
+mod fitting;
+#[cfg(test)]
 mod folders;
 #[cfg(test)]
 mod instructions;

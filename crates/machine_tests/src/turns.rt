@@ -43,15 +43,66 @@ fn two_turns(
     Ok(machine.end())
 }
 
+// A budget, one or two threads that make a turn, and what is answered at last.
+const RETURNS_ONCE: [(u64, u32, Result<Option<End>, TurnFault>); 3] = [
+    (5, 0, Ok(Some(End::Done))),
+    (1, 0, Ok(Some(End::Done))),
+    (5, 1, Err(TurnFault::NotLive)),
+];
+
+const RETURNS_TWICE: [(u64, u32, u32, Result<Option<End>, TurnFault>); 2] = [
+    (5, 0, 0, Err(TurnFault::Over)),
+    (5, 0, 1, Err(TurnFault::Over)),
+];
+
+const PRINTS_ONCE: [(u64, u32, Result<Option<End>, TurnFault>); 2] = [
+    (5, 0, Ok(None)),
+    (1, 0, Ok(Some(End::Spent))),
+];
+
+const PRINTS_TWICE: [(u64, u32, u32, Result<Option<End>, TurnFault>); 3] = [
+    (2, 0, 0, Ok(Some(End::Done))),
+    (1, 0, 0, Err(TurnFault::Over)),
+    (5, 0, 1, Err(TurnFault::NotLive)),
+];
+
+/// The first row that is answered otherwise.
+fn wrong_in_one(
+    alloc: Global,
+    plain: &Plain,
+    rows: &[(u64, u32, Result<Option<End>, TurnFault>)],
+) -> Option<usize> {
+    for (at, (events, thread, wanted)) in rows.iter().enumerate() {
+        if *events < 1 || *events > 9 || one_turn(alloc, plain, *events, *thread) != *wanted {
+            return Some(at);
+        }
+    }
+    None
+}
+
+/// The first row that is answered otherwise.
+fn wrong_in_two(
+    alloc: Global,
+    plain: &Plain,
+    rows: &[(u64, u32, u32, Result<Option<End>, TurnFault>)],
+) -> Option<usize> {
+    for (at, (events, first, second, wanted)) in rows.iter().enumerate() {
+        if *events < 1
+            || *events > 9
+            || two_turns(alloc, plain, *events, *first, *second) != *wanted
+        {
+            return Some(at);
+        }
+    }
+    None
+}
+
 #[test]
 fn return_alone(rt: HostRuntime) -> Result<(), Fail> {
     let alloc = rt.alloc();
     let plain = program(alloc, &[Instr::Return])?;
-    assert!(rt; one_turn(alloc, &plain, 5, 0) == Ok(Some(End::Done)));
-    assert!(rt; one_turn(alloc, &plain, 1, 0) == Ok(Some(End::Done)));
-    assert!(rt; one_turn(alloc, &plain, 5, 1) == Err(TurnFault::NotLive));
-    assert!(rt; two_turns(alloc, &plain, 5, 0, 0) == Err(TurnFault::Over));
-    assert!(rt; two_turns(alloc, &plain, 5, 0, 1) == Err(TurnFault::Over));
+    assert_eq!(rt; wrong_in_one(alloc, &plain, &RETURNS_ONCE), None);
+    assert_eq!(rt; wrong_in_two(alloc, &plain, &RETURNS_TWICE), None);
     Ok(())
 }
 
@@ -59,11 +110,8 @@ fn return_alone(rt: HostRuntime) -> Result<(), Fail> {
 fn a_print_and_the_end(rt: HostRuntime) -> Result<(), Fail> {
     let alloc = rt.alloc();
     let plain = program(alloc, &SEVEN)?;
-    assert!(rt; one_turn(alloc, &plain, 5, 0) == Ok(None));
-    assert!(rt; one_turn(alloc, &plain, 1, 0) == Ok(Some(End::Spent)));
-    assert!(rt; two_turns(alloc, &plain, 2, 0, 0) == Ok(Some(End::Done)));
-    assert!(rt; two_turns(alloc, &plain, 1, 0, 0) == Err(TurnFault::Over));
-    assert!(rt; two_turns(alloc, &plain, 5, 0, 1) == Err(TurnFault::NotLive));
+    assert_eq!(rt; wrong_in_one(alloc, &plain, &PRINTS_ONCE), None);
+    assert_eq!(rt; wrong_in_two(alloc, &plain, &PRINTS_TWICE), None);
     Ok(())
 }
 

@@ -1,4 +1,6 @@
 // Operations tried on a world one after another, with what each is to answer.
+ghost use Rattle.std.specs.Prelude.{◌<◌, ◌^◌};
+
 use shared_world::{ApplyFault, LockState, RowState, Start, World, start_of};
 use std::alloc::Global;
 use vm_model::{
@@ -6,11 +8,11 @@ use vm_model::{
     Reply, StaticSlot, Value,
 };
 
-const WORKER: u32 = 32;
+pub const WORKER: u32 = 32;
 
-const PLACE: u32 = 33;
+pub const PLACE: u32 = 33;
 
-const OBJECT: Lock = Lock::Object(0);
+pub const OBJECT: Lock = Lock::Object(0);
 
 const LATER: Lock = Lock::Object(2);
 
@@ -37,12 +39,12 @@ const A_WORKER: ObjRef = ObjRef {
     class: WORKER,
 };
 
-const PLACE_VALUE: Value = Value::Obj {
+pub const PLACE_VALUE: Value = Value::Obj {
     id: 0,
     class: PLACE,
 };
 
-const WORKER_VALUE: Value = Value::Obj {
+pub const WORKER_VALUE: Value = Value::Obj {
     id: 1,
     class: WORKER,
 };
@@ -52,9 +54,9 @@ const OBJECT_VALUE: Value = Value::Obj { id: 2, class: 0 };
 /// The object on whose monitor the threads of the later tests meet.
 const SEEN_VALUE: Value = Value::Obj { id: 0, class: 0 };
 
-const ARRAY_VALUE: Value = Value::Arr { id: 3, len: 3 };
+pub const ARRAY_VALUE: Value = Value::Arr { id: 3, len: 3 };
 
-const LONGER_ARRAY: Value = Value::Arr { id: 3, len: 4 };
+pub const LONGER_ARRAY: Value = Value::Arr { id: 3, len: 4 };
 
 const PUT_INT: Op = Op::PutStatic {
     slot: 0,
@@ -101,7 +103,7 @@ const GET_NUMBER: Op = Op::GetField {
     place: 0,
 };
 
-const GET_NEXT: Op = Op::GetField {
+pub const GET_NEXT: Op = Op::GetField {
     obj: A_PLACE,
     place: 1,
 };
@@ -232,7 +234,7 @@ const RESUME_TWICE: Op = Op::Resume {
     count: 2,
 };
 
-const START_WORKER: Op = Op::Start { target: A_WORKER };
+pub const START_WORKER: Op = Op::Start { target: A_WORKER };
 
 const START_AS_THREAD: Op = Op::Start {
     target: ObjRef { id: 1, class: 1 },
@@ -431,34 +433,6 @@ const OUTPUT_FILLED: [Try; 3] = [
     (0, PRINT_INT, Some(Reply::Raise(FaultKind::OutputFull))),
 ];
 
-const FIT: [(Op, Reply); 10] = [
-    (Op::GetStatic { slot: 0 }, Reply::Got(Value::Int(1))),
-    (Op::GetStatic { slot: 1 }, Reply::Got(Value::Null)),
-    (
-        Op::GetStatic { slot: 1 },
-        Reply::Got(Value::Obj { id: 8, class: 12 }),
-    ),
-    (GET_NEXT, Reply::Got(PLACE_VALUE)),
-    (Op::New { class: PLACE }, Reply::Made(PLACE_VALUE)),
-    (Op::New { class: 5 }, Reply::Raise(FaultKind::HeapFull)),
-    (Op::NewArray { len: 3 }, Reply::Made(ARRAY_VALUE)),
-    (Op::Wait { lock: OBJECT }, Reply::Waits(3)),
-    (START_WORKER, Reply::Began(3)),
-    (START_WORKER, Reply::Raise(FaultKind::ThreadsFull)),
-];
-
-const UNFIT: [(Op, Reply); 9] = [
-    (Op::GetStatic { slot: 0 }, Reply::Got(Value::Null)),
-    (Op::GetStatic { slot: 0 }, Reply::Unit),
-    (Op::GetStatic { slot: 1 }, Reply::Got(Value::Stream)),
-    (GET_NEXT, Reply::Got(WORKER_VALUE)),
-    (Op::New { class: 5 }, Reply::Made(PLACE_VALUE)),
-    (Op::New { class: 5 }, Reply::Raise(FaultKind::OutputFull)),
-    (Op::NewArray { len: 3 }, Reply::Made(LONGER_ARRAY)),
-    (Op::Wait { lock: OBJECT }, Reply::Unit),
-    (Op::Yield, Reply::Raise(FaultKind::ThreadsFull)),
-];
-
 fn slot(alloc: Global, kind: Kind, start: Value) -> Result<StaticSlot, NoMemory> {
     Ok(StaticSlot {
         class: PLACE,
@@ -468,39 +442,67 @@ fn slot(alloc: Global, kind: Kind, start: Value) -> Result<StaticSlot, NoMemory>
     })
 }
 
-/// Classes 32, a thread without fields, and 33, an object with an int and a reference to its own class; an int, an Object
-/// and an array as statics; the given text.
-fn program(alloc: Global, text: &[u8]) -> Result<Start, NoMemory> {
-    let mut fields = Vec::new(alloc);
-    fields.push(Field {
+/// An int and a reference to its own class.
+fn place_fields(alloc: Global) -> Result<Vec<Field>, NoMemory> {
+    let number = Field {
         name: Name::of(alloc, b"n")?,
         kind: Kind::Int,
-    })?;
-    fields.push(Field {
+    };
+    let next = Field {
         name: Name::of(alloc, b"next")?,
         kind: Kind::Ref(PLACE),
-    })?;
-    let mut classes = Vec::new(alloc);
-    classes.push(Class {
-        name: Name::of(alloc, b"Worker")?,
-        is_thread: true,
-        is_runnable: false,
-        fields: Vec::new(alloc),
-        run: None,
-    })?;
-    classes.push(Class {
-        name: Name::of(alloc, b"Place")?,
-        is_thread: false,
+    };
+    let mut fields = Vec::new(alloc);
+    fields.push(number)?;
+    fields.push(next)?;
+    Ok(fields)
+}
+
+fn class(
+    alloc: Global,
+    name: &[u8],
+    is_thread: bool,
+    fields: Vec<Field>,
+) -> Result<Class, NoMemory> {
+    Ok(Class {
+        name: Name::of(alloc, name)?,
+        is_thread,
         is_runnable: false,
         fields,
         run: None,
-    })?;
+    })
+}
+
+/// Classes 32, a thread without fields, and 33, an object with an int and a reference to its own class.
+fn two_classes(alloc: Global) -> Result<Vec<Class>, NoMemory> {
+    let worker = class(alloc, b"Worker", true, Vec::new(alloc))?;
+    let place = class(alloc, b"Place", false, place_fields(alloc)?)?;
+    let mut classes = Vec::new(alloc);
+    classes.push(worker)?;
+    classes.push(place)?;
+    Ok(classes)
+}
+
+/// An int, an Object and an array.
+fn three_statics(alloc: Global) -> Result<Vec<StaticSlot>, NoMemory> {
     let mut statics = Vec::new(alloc);
     statics.push(slot(alloc, Kind::Int, Value::Int(7))?)?;
     statics.push(slot(alloc, Kind::Ref(0), Value::Null)?)?;
     statics.push(slot(alloc, Kind::Arr, Value::Null)?)?;
+    Ok(statics)
+}
+
+fn one_text(alloc: Global, text: &[u8]) -> Result<Vec<Name>, NoMemory> {
     let mut texts = Vec::new(alloc);
     texts.push(Name::of(alloc, text)?)?;
+    Ok(texts)
+}
+
+/// The start of a program with these two classes, three statics and this text.
+pub fn program(alloc: Global, text: &[u8]) -> Result<Start, NoMemory> {
+    let classes = two_classes(alloc)?;
+    let statics = three_statics(alloc)?;
+    let texts = one_text(alloc, text)?;
     let plain = Plain::of(Program {
         classes,
         methods: Vec::new(alloc),
@@ -545,6 +547,20 @@ fn plays(world: &mut World, alloc: Global, tries: &[Try]) -> Result<bool, NoMemo
     Ok(true)
 }
 
+/// The first of these tables of tries, one after another, in which the world gives otherwise.
+fn first_wrong(
+    world: &mut World,
+    alloc: Global,
+    tables: &[&[Try]],
+) -> Result<Option<usize>, NoMemory> {
+    for (at, tries) in tables.iter().enumerate() {
+        if !plays(world, alloc, tries)? {
+            return Ok(Some(at));
+        }
+    }
+    Ok(None)
+}
+
 fn row(world: &World, thread: u32) -> Option<RowState> {
     if thread < world.rows() {
         Some(world.row(thread))
@@ -569,96 +585,88 @@ fn held(owner: Option<u32>, count: u32, waiters: u32) -> Option<LockState> {
     })
 }
 
-/// Statics, fields, items and printing; 0, or what was found wrong.
-fn values(alloc: Global) -> Result<u32, NoMemory> {
+const VALUES: [&[Try]; 4] = [&STATICS, &FIELDS, &ARRAYS, &PRINTED];
+
+fn shows_values(world: &World) -> bool {
+    let is_printed = world.output() == b"-12ab\nnull\n".as_slice();
+    let are_counted = world.objects() == 4 && world.words() == 3 + 2 + 1 + 4;
+    let is_put = world.has_static(2) && world.static_value(2) == ARRAY_VALUE;
+    is_printed && are_counted && is_put
+}
+
+/// Statics, fields, items and printing: the table that goes otherwise, or 4 where what the world shows then is wrong.
+fn wrong_in_values(alloc: Global) -> Result<Option<usize>, NoMemory> {
     let mut world = first_world(alloc)?;
-    if !plays(&mut world, alloc, &STATICS)? {
-        return Ok(1);
-    }
-    if !plays(&mut world, alloc, &FIELDS)? {
-        return Ok(2);
-    }
-    if !plays(&mut world, alloc, &ARRAYS)? {
-        return Ok(3);
-    }
-    if !plays(&mut world, alloc, &PRINTED)? || world.output() != b"-12ab\nnull\n".as_slice() {
-        return Ok(4);
-    }
-    if world.objects() != 4 || world.words() != 3 + 2 + 1 + 4 {
-        return Ok(5);
-    }
-    if !world.has_static(2) || world.static_value(2) != ARRAY_VALUE {
-        return Ok(6);
-    }
-    Ok(0)
-}
-
-/// Locks, threads and the fault; 0, or what was found wrong.
-fn threads(alloc: Global) -> Result<u32, NoMemory> {
-    let mut world = first_world(alloc)?;
-    if !plays(&mut world, alloc, &STRANGERS)? || !plays(&mut world, alloc, &STARTED)? {
-        return Ok(1);
-    }
-    if !plays(&mut world, alloc, &EXITED)? || !plays(&mut world, alloc, &RESUMED)? {
-        return Ok(2);
-    }
-    if world.rows() != 2 || world.is_live(1) || !world.is_live(0) || world.is_live(2) {
-        return Ok(3);
-    }
-    if world.target(1) != Some(A_WORKER) || world.target(0).is_some() || world.all_ended() {
-        return Ok(4);
-    }
-    let fault = Fault {
-        kind: FaultKind::Arithmetic,
-        thread: 0,
-        method: 4,
-        at: 17,
-    };
-    // The ended thread still owns what it didn't exit.
-    if world.fault() != Some(fault) || lock_state(&world, OBJECT) != held(Some(1), 1, 0) {
-        return Ok(5);
-    }
-    Ok(0)
-}
-
-/// The run after the wait; 0, or what was found wrong.
-fn twice_goes_on(world: &mut World, alloc: Global) -> Result<u32, NoMemory> {
-    if world.clock() != 7 || lock_state(world, OBJECT) != held(None, 0, 1) {
-        return Ok(1);
-    }
-    if !plays(world, alloc, &TWICE_NOTIFIES)? || world.clock() != 13 {
-        return Ok(2);
-    }
-    if lock_state(world, OBJECT) != held(Some(0), 2, 0) || row(world, 0) != Some(RowState::Live) {
-        return Ok(3);
-    }
-    if row(world, 1) != Some(RowState::Ended) || world.objects() != 2 || world.words() != 3 {
-        return Ok(4);
-    }
-    if !plays(world, alloc, &TWICE_ENDS)? || world.clock() != 16 || !world.all_ended() {
-        return Ok(5);
-    }
-    Ok(0)
-}
-
-/// The end of the run, and once more from a copy; 0, or what was found wrong.
-fn both_go_on(world: &mut World, copied: &mut World, alloc: Global) -> Result<u32, NoMemory> {
-    let found = twice_goes_on(world, alloc)?;
-    let again = twice_goes_on(copied, alloc)?;
-    if again != found || world.history() != copied.history() {
-        return Ok(6);
+    let found = first_wrong(&mut world, alloc, &VALUES)?;
+    if found.is_none() && !shows_values(&world) {
+        return Ok(Some(4));
     }
     Ok(found)
 }
 
-/// The run of a thread that waits on a monitor entered twice; 0, or what was found wrong.
-fn twice(alloc: Global) -> Result<u32, NoMemory> {
+const THREADS: [&[Try]; 4] = [&STRANGERS, &STARTED, &EXITED, &RESUMED];
+
+const FAULT_OF_FIRST: Fault = Fault {
+    kind: FaultKind::Arithmetic,
+    thread: 0,
+    method: 4,
+    at: 17,
+};
+
+/// The ended thread still owns what it didn't exit.
+fn shows_threads(world: &World) -> bool {
+    let are_two = world.rows() == 2 && world.is_live(0) && !world.is_live(1) && !world.is_live(2);
+    let are_targets = world.target(1) == Some(A_WORKER) && world.target(0).is_none();
+    let is_over = world.fault() == Some(FAULT_OF_FIRST) && !world.all_ended();
+    are_two && are_targets && is_over && lock_state(world, OBJECT) == held(Some(1), 1, 0)
+}
+
+/// Locks, threads and the fault: the table that goes otherwise, or 4 where what the world shows then is wrong.
+fn wrong_in_threads(alloc: Global) -> Result<Option<usize>, NoMemory> {
     let mut world = first_world(alloc)?;
-    if !plays(&mut world, alloc, &TWICE_WAITS)? || row(&world, 0) != Some(RowState::Waiting) {
-        return Ok(7);
+    let found = first_wrong(&mut world, alloc, &THREADS)?;
+    if found.is_none() && !shows_threads(&world) {
+        return Ok(Some(4));
     }
+    Ok(found)
+}
+
+fn shows_wait(world: &World) -> bool {
+    world.clock() == 7 && lock_state(world, OBJECT) == held(None, 0, 1)
+}
+
+fn shows_return(world: &World) -> bool {
+    let is_held = lock_state(world, OBJECT) == held(Some(0), 2, 0);
+    let are_rows = row(world, 0) == Some(RowState::Live) && row(world, 1) == Some(RowState::Ended);
+    world.clock() == 13 && is_held && are_rows && world.objects() == 2 && world.words() == 3
+}
+
+/// Whether the run goes on after the wait as wanted.
+fn twice_goes_on(world: &mut World, alloc: Global) -> Result<bool, NoMemory> {
+    let waited = shows_wait(world);
+    let notified = plays(world, alloc, &TWICE_NOTIFIES)? && shows_return(world);
+    let ended = plays(world, alloc, &TWICE_ENDS)? && world.clock() == 16 && world.all_ended();
+    Ok(waited && notified && ended)
+}
+
+/// The end of the run, and once more from a copy.
+fn both_go_on(world: &mut World, copied: &mut World, alloc: Global) -> Result<bool, NoMemory> {
+    let goes_on = twice_goes_on(world, alloc)?;
+    let goes_on_again = twice_goes_on(copied, alloc)?;
+    Ok(goes_on && goes_on_again && world.history() == copied.history())
+}
+
+/// A thread waits on a monitor that it entered twice.
+fn waits_twice(world: &mut World, alloc: Global) -> Result<bool, NoMemory> {
+    Ok(plays(world, alloc, &TWICE_WAITS)? && row(world, 0) == Some(RowState::Waiting))
+}
+
+/// Whether its run goes on as wanted from there, and from a copy.
+fn twice(alloc: Global) -> Result<bool, NoMemory> {
+    let mut world = first_world(alloc)?;
+    let waits = waits_twice(&mut world, alloc)?;
     let mut copied = world.copy(alloc)?;
-    both_go_on(&mut world, &mut copied, alloc)
+    Ok(waits && both_go_on(&mut world, &mut copied, alloc)?)
 }
 
 /// The greatest array fills the heap.
@@ -668,19 +676,29 @@ fn heap_is_filled(alloc: Global) -> Result<bool, NoMemory> {
     Ok(filled && world.words() == 4194304 && world.clock() == 3)
 }
 
-/// Sixteen texts of 1 MiB fill the output.
-fn output_is_filled(alloc: Global) -> Result<bool, NoMemory> {
+/// The start of a program with a text of 1 MiB.
+fn long_text(alloc: Global) -> Result<Start, NoMemory> {
     let mut text = Vec::new(alloc);
     text.resize(1048576, b'a')?;
-    let start = program(alloc, text.as_slice())?;
-    let mut world = World::new(alloc, start, 20)?;
-    for _i in 0..16 {
-        if !tried(&mut world, alloc, (0, PRINT_TEXT, DONE))? {
+    program(alloc, text.as_slice())
+}
+
+/// Whether so many texts are printed.
+fn prints(world: &mut World, alloc: Global, count: u32) -> Result<bool, NoMemory> {
+    for _i in 0..count {
+        if !tried(world, alloc, (0, PRINT_TEXT, DONE))? {
             return Ok(false);
         }
     }
+    Ok(true)
+}
+
+/// Sixteen texts of 1 MiB fill the output.
+fn output_is_filled(alloc: Global) -> Result<bool, NoMemory> {
+    let mut world = World::new(alloc, long_text(alloc)?, 20)?;
+    let printed = prints(&mut world, alloc, 16)?;
     let filled = plays(&mut world, alloc, &OUTPUT_FILLED)?;
-    Ok(filled && world.output().len() == 16777216)
+    Ok(printed && filled && world.output().len() == 16777216)
 }
 
 fn made(id: u32) -> Try {
@@ -696,76 +714,38 @@ fn started(id: u32, reply: Reply) -> Try {
     (0, Op::Start { target }, Some(reply))
 }
 
+/// Whether as many threads as these are made and started.
+fn starts(world: &mut World, alloc: Global, count: u32) -> Result<bool, NoMemory>
+    requires { count < 2 ^ 31 }
+{
+    for id in 0..count {
+        let is_made = tried(world, alloc, made(id))?;
+        if !is_made || !tried(world, alloc, started(id, Reply::Began(id + 1)))? {
+            return Ok(false);
+        }
+    }
+    Ok(true)
+}
+
 /// The first thread and 63 others are all that can be started.
 fn threads_are_full(alloc: Global) -> Result<bool, NoMemory> {
     let mut world = first_world(alloc)?;
-    for id in 0..63 {
-        if !tried(&mut world, alloc, made(id))? {
-            return Ok(false);
-        }
-        if !tried(&mut world, alloc, started(id, Reply::Began(id + 1)))? {
-            return Ok(false);
-        }
-    }
-    if !tried(&mut world, alloc, made(63))? {
-        return Ok(false);
-    }
     let full = started(63, Reply::Raise(FaultKind::ThreadsFull));
-    Ok(tried(&mut world, alloc, full)? && world.rows() == 64)
-}
-
-fn thread_classes(start: &Start) -> bool {
-    let is_thread = [
-        (0, false),
-        (1, true),
-        (2, false),
-        (WORKER, true),
-        (PLACE, false),
-        (34, false),
-    ];
-    for (class, wanted) in is_thread {
-        if start.is_thread(class) != wanted {
-            return false;
-        }
-    }
-    true
-}
-
-fn all_fit(start: &Start, wanted: bool, cases: &[(Op, Reply)]) -> bool {
-    for case in cases {
-        if start.fits(&case.0, &case.1) != wanted {
-            return false;
-        }
-    }
-    true
-}
-
-/// Which class is one of threads, and which reply fits which operation; 0, or what was found wrong.
-fn fitting(alloc: Global) -> Result<u32, NoMemory> {
-    let start = program(alloc, b"")?.copy(alloc)?;
-    if !thread_classes(&start) {
-        return Ok(1);
-    }
-    if !all_fit(&start, true, &FIT) {
-        return Ok(2);
-    }
-    if !all_fit(&start, false, &UNFIT) {
-        return Ok(3);
-    }
-    Ok(0)
+    let are_started = starts(&mut world, alloc, 63)?;
+    let is_full = tried(&mut world, alloc, made(63))? && tried(&mut world, alloc, full)?;
+    Ok(are_started && is_full && world.rows() == 64)
 }
 
 #[test]
 fn operations(rt: HostRuntime) {
-    assert_eq!(rt; values(rt.alloc()), Ok(0));
-    assert_eq!(rt; threads(rt.alloc()), Ok(0));
-    assert_eq!(rt; twice(rt.alloc()), Ok(0));
+    assert_eq!(rt; wrong_in_values(rt.alloc()), Ok(None));
+    assert_eq!(rt; wrong_in_threads(rt.alloc()), Ok(None));
+    assert_eq!(rt; twice(rt.alloc()), Ok(true));
 }
 
 #[test]
-fn limits_and_fitting(rt: HostRuntime) {
+fn limits(rt: HostRuntime) {
     assert_eq!(rt; heap_is_filled(rt.alloc()), Ok(true));
     assert_eq!(rt; output_is_filled(rt.alloc()), Ok(true));
     assert_eq!(rt; threads_are_full(rt.alloc()), Ok(true));
-    assert_eq!(rt; fitting(rt.alloc()), Ok(0));
 }
