@@ -5,3 +5,4 @@ mod machine;
 mod threads;
 
 pub use machine::{Machine, Next, TurnFault};
+pub use threads::{first_thread, started_thread};

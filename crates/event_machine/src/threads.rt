@@ -20,8 +20,8 @@ pub fn first_thread(alloc: Global, plain: &Plain) -> Result<Local, NoMemory>
     Ok(local)
 }
 
-/// A started thread at its first operation.
-fn started_thread(alloc: Global, plain: &Plain, target: ObjRef) -> Result<Local, NoMemory>
+/// The thread that is started for this object, at its first operation.
+pub fn started_thread(alloc: Global, plain: &Plain, target: ObjRef) -> Result<Local, NoMemory>
     ensures state { IfOk result (λ l. l.state ≡ settled plain.now (first_of_thread plain.now target)) }
     ensures ready { IfOk result (IsReady plain.now) }
 {

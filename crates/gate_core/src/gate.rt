@@ -1,4 +1,5 @@
 ghost use Rattle.std.specs.Prelude.{◌≡◌, ◌≤◌, ◌<◌, ◌%◌, Contains};
+ghost use Rattle.gate_core.specs.Gates.{is_leave, is_over};
 
 use std::alloc::Global;
 use vm_model::{ObjRef, Op, Reply};
@@ -16,6 +17,20 @@ pub enum Offer {
     NoMemory,
 }
 
+impl Offer {
+    /// Whether the lane has nothing left to do.
+    pub fn is_leave(self) -> bool
+        ensures { result ≡ is_leave self }
+    {
+        match self {
+            Offer::Leave => true,
+            Offer::Committed { .. } => false,
+            Offer::Again => false,
+            Offer::NoMemory => false,
+        }
+    }
+}
+
 /// Whether a thread was started.
 #[derive(Clone, Copy, Debug, PartialEq, Eq)]
 pub enum Begun {
@@ -25,6 +40,19 @@ pub enum Begun {
     NotYet,
     /// It was not, and the lane has nothing left to do.
     Over,
+}
+
+impl Begun {
+    /// Whether the lane has nothing left to do.
+    pub fn is_over(self) -> bool
+        ensures { result ≡ is_over self }
+    {
+        match self {
+            Begun::Over => true,
+            Begun::Yes(_) => false,
+            Begun::NotYet => false,
+        }
+    }
 }
 
 /// What puts the operations of several lanes in one order. A thread belongs to the lane of its number modulo the number of

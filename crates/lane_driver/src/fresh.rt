@@ -1,11 +1,11 @@
 // Threads that no lane ran.
 ghost use Rattle.std.specs.Prelude.{◌≡◌, ◌≢◌, ◌<◌, ◌≤◌, ℕ, All, length, IfOk, IsSome, Some};
 ghost use Rattle.vm_model.specs.declared.limits.TheConstants.{MOST_THREADS};
-ghost use Rattle.machine_model.specs.LocalStep.{first_of_main, first_of_thread, settled};
 ghost use Rattle.machine_model.specs.Machine.{threads_of};
 ghost use Rattle.local_machine.specs.LocalView.{IsReady};
 ghost use Rattle.projection_laws.specs.Projections.{first_in, target_in};
 
+use event_machine::{first_thread, started_thread};
 use local_machine::Local;
 use shared_world::World;
 use std::alloc::Global;
@@ -30,24 +30,6 @@ fn target_of(world: &World, thread: u32) -> Option<ObjRef>
     // as in `started_count`
     let _history = world.history();
     world.target(thread)
-}
-
-fn first_thread(alloc: Global, plain: &Plain) -> Result<Local, NoMemory>
-    ensures state { IfOk result (λ l. l.state ≡ settled plain.now (first_of_main plain.now)) }
-    ensures ready { IfOk result (IsReady plain.now) }
-{
-    let mut local = Local::first(alloc, plain)?;
-    local.advance(alloc, plain)?;
-    Ok(local)
-}
-
-fn started_thread(alloc: Global, plain: &Plain, target: ObjRef) -> Result<Local, NoMemory>
-    ensures state { IfOk result (λ l. l.state ≡ settled plain.now (first_of_thread plain.now target)) }
-    ensures ready { IfOk result (IsReady plain.now) }
-{
-    let mut local = Local::of_thread(alloc, plain, target)?;
-    local.advance(alloc, plain)?;
-    Ok(local)
 }
 
 /// A thread that was started, at its first operation.

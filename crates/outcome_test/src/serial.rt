@@ -1,9 +1,7 @@
 //! Rounds of tests on one thread.
 
-ghost use Rattle.std.specs.Prelude.{IsPermutation};
 ghost use Rattle.outcome_test.specs.Memos.{Remembers};
 ghost use Rattle.outcome_test.specs.Resumed.{AreUnder};
-ghost use Rattle.thread_driver.specs.Waiting.{Rises};
 ghost use Rattle.std.specs.Prelude.{◌≡◌, ◌≤◌, ◌<◌, ◌+◌, ◌^◌, None, length, All, IfOk};
 ghost use Rattle.vm_model.specs.declared.ends.Fault.{Fault};
 ghost use Rattle.machine_model.specs.Machine.{end_of, start_machine};
@@ -18,6 +16,7 @@ use crate::resuming::Resumed;
 use schedule_model::{Found, Outcome, Rounds, Schedule};
 use std::alloc::Global;
 use std::marker::Model;
+use thread_driver::in_order;
 use vm_model::{Fault, NoMemory, Plain};
 
 /// Rounds on one thread of the tool's own: tests are run in order, up to the first resolved one. What a test showed is
@@ -75,17 +74,6 @@ impl<'a> SerialRounds<'a> {
     pub fn turns(&self) -> u64 {
         self.runs.turns()
     }
-}
-
-/// Times in rising order.
-fn in_order(alloc: Global, times: &[u32]) -> Result<Vec<u32>, NoMemory>
-    ensures same { IfOk result (λ sorted. IsPermutation times.now sorted.items) }
-    ensures rising { IfOk result (λ sorted. Rises 0 sorted.items) }
-    ensures size { IfOk result (λ sorted. length sorted.items ≡ length times.now) }
-{
-    let mut sorted = Vec::from_slice(alloc, times)?;
-    sorted.sort_unstable();
-    Ok(sorted)
 }
 
 /// What a test shows: as it is remembered, or else by its run.

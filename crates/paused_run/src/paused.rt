@@ -12,10 +12,11 @@ ghost use Rattle.thread_driver.specs.Waiting.{Rises};
 ghost use Rattle.paused_run.specs.Partings.{AreAlike, PartAt};
 ghost use Rattle.paused_run.specs.Pauses.{clock_of, IsPausedOf};
 
-use crate::waiting::{parting, passed_before, places_at};
+use crate::waiting::{parting, passed_before};
 use event_machine::Machine;
 use std::alloc::Global;
 use std::marker::Model;
+use thread_driver::places_at;
 use vm_model::{End, NoMemory, Plain};
 
 /// A run of a schedule that stands still after some of its events: the machine there, the current thread, and the schedule's

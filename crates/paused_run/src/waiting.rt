@@ -1,29 +1,8 @@
 //! Times in rising order: which of them are still to come, and where two lists of them part.
 
 ghost use Rattle.std.specs.Prelude.{◌≡◌, ◌≤◌, ◌+◌, length, drop, MatchOption};
-ghost use Rattle.machine_model.specs.Ring.{switches_at};
 ghost use Rattle.thread_driver.specs.Waiting.{Awaits, Rises};
 ghost use Rattle.paused_run.specs.Partings.{AreAlike, PartAt};
-
-/// How many of the times that are left are this event's. They stand first.
-pub fn places_at(waiting: &[u32], event: u64) -> u32
-    requires few { length waiting.now ≤ 16384 }
-    requires rising { Rises event waiting.now }
-    ensures value { result ≡ switches_at waiting.now event }
-    ensures within { result ≤ length waiting.now }
-    ensures rest { Awaits waiting.now (event + 1) (drop result waiting.now) }
-{
-    let mut places = 0;
-    let mut rest = waiting;
-    while let [time, later @ ..] = rest {
-        if u64::from(*time) != event {
-            break;
-        }
-        places += 1;
-        rest = later;
-    }
-    places
-}
 
 /// How many times stand before this clock.
 pub fn passed_before(times: &[u32], clock: u64) -> usize

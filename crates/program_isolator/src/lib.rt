@@ -4,7 +4,7 @@
 mod program;
 mod refusal;
 
-pub use program::isolate_program;
+pub use program::{end_of_run, isolate_program};
 pub use refusal::IsolationRefusal;
 
 #[cfg(test)]

@@ -16,8 +16,8 @@ use std::thread::Threads;
 use switch_schedule::run_schedule;
 use vm_model::{End, Fault, NoMemory, Plain};
 
-/// How the run of a schedule ends.
-fn end_of_run(
+/// How the run of a schedule ends. `events`, from 1 to 1,048,576, is how many events it may make.
+pub fn end_of_run(
     alloc: Global,
     plain: &Plain,
     schedule: &Schedule,

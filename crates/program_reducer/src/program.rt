@@ -11,30 +11,13 @@ ghost use Rattle.program_reducer.specs.Reductions.{tests_on, IsLeftOf, IsReducti
 
 use crate::refusal::ReductionRefusal;
 use outcome_test::{SerialRounds, WideRounds};
+use program_isolator::end_of_run;
 use schedule_model::laws::same_faults_are_equal;
 use schedule_model::{Rounds, Schedule};
 use std::alloc::Global;
 use std::thread::Threads;
 use switch_reducer::{ReduceFault, Reduced, reduce};
-use switch_schedule::run_schedule;
-use vm_model::{End, Fault, NoMemory, Plain};
-
-/// How the run of a schedule ends.
-fn end_of_run(
-    alloc: Global,
-    plain: &Plain,
-    schedule: &Schedule,
-    events: u64,
-) -> Result<End, NoMemory>
-    requires few { length schedule.now ≤ 16384 }
-    requires some { 1 ≤ events }
-    requires limit { events ≤ 1048576 }
-    requires begins { end_of plain.now (start_machine plain.now) events ≡ None }
-    ensures { IfOk result (EndsSo plain.now events schedule.now) }
-{
-    let ran = run_schedule(alloc, plain, schedule, events)?;
-    Ok(ran.end)
-}
+use vm_model::{End, Fault, Plain};
 
 /// What is left against one fault, by rounds of the program's runs that have asked nothing yet.
 fn reduce_with<R: Rounds>(

@@ -1,11 +1,9 @@
 -- What the gate tells to lanes.
-use Rattle.std.specs.Prelude.{ℕ, ◌+◌, Bool, true, false, if◌then◌else◌, List, [], ◌∷◌, None}
+use Rattle.std.specs.Prelude.{ℕ, ◌+◌, false, if◌then◌else◌, List, [], ◌∷◌, None}
 use Rattle.projection_laws.specs.Projections.{target_in}
 use Rattle.gate_core.specs.Seats.{GateView, SeatView, Placed}
 use Rattle.gate_core.specs.declared.gate.Offer.{Offer}
 use Rattle.gate_core.specs.declared.gate.Offer.TheVariants as offer
-use Rattle.gate_core.specs.declared.gate.Begun.{Begun}
-use Rattle.gate_core.specs.declared.gate.Begun.TheVariants as begun
 use Rattle.record_gate.specs.declared.answers.Committing.{Committing}
 use Rattle.record_gate.specs.declared.answers.Committing.TheVariants as answer
 use Rattle.record_gate.specs.declared.rule.RecordView.{RecordView}
@@ -20,17 +18,6 @@ offer_of answer.Blocked = offer.Again
 offer_of (answer.Over e) = offer.Leave
 offer_of answer.Spent = offer.Leave
 offer_of answer.NoMemory = offer.NoMemory
-
-abbrev pub is_leave : Offer → Bool
-is_leave (offer.Committed clock reply) = false
-is_leave offer.Again = false
-is_leave offer.Leave = true
-is_leave offer.NoMemory = false
-
-abbrev pub is_over : Begun → Bool
-is_over (begun.Yes target) = false
-is_over begun.NotYet = false
-is_over begun.Over = true
 
 abbrev pub about_of : GateState → GateView
 about_of g = record { declarations = g.setup.start; lanes = g.setup.lanes }

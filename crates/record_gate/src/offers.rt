@@ -1,5 +1,5 @@
 ghost use Rattle.std.specs.Prelude.{◌≡◌, ◌||◌};
-ghost use Rattle.record_gate.specs.Offers.{offer_of, is_leave, is_over};
+ghost use Rattle.record_gate.specs.Offers.{offer_of};
 
 use crate::answers::Committing;
 use crate::gate::RecordGate;
@@ -19,27 +19,6 @@ fn offered(answer: Committing) -> Offer
         Committing::Over(_) => Offer::Leave,
         Committing::Spent => Offer::Leave,
         Committing::NoMemory => Offer::NoMemory,
-    }
-}
-
-fn tells_off(offer: Offer) -> bool
-    ensures { result ≡ is_leave offer }
-{
-    match offer {
-        Offer::Leave => true,
-        Offer::Committed { .. } => false,
-        Offer::Again => false,
-        Offer::NoMemory => false,
-    }
-}
-
-fn ends(begun: Begun) -> bool
-    ensures { result ≡ is_over begun }
-{
-    match begun {
-        Begun::Over => true,
-        Begun::Yes(_) => false,
-        Begun::NotYet => false,
     }
 }
 
@@ -67,13 +46,13 @@ impl Gate for RecordGate {
     fn offer(&self, alloc: Global, seat: &mut RecordSeat, thread: u32, op: Op) -> Offer {
         let answer = self.try_commit(alloc, seat, thread, op);
         let offer = offered(answer);
-        tell_off(seat, tells_off(offer));
+        tell_off(seat, offer.is_leave());
         offer
     }
 
     fn begun(&self, seat: &mut RecordSeat, thread: u32) -> Begun {
         let begun = RecordGate::begun(self, seat, thread);
-        tell_off(seat, ends(begun));
+        tell_off(seat, begun.is_over());
         begun
     }
 

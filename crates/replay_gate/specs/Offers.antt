@@ -1,12 +1,10 @@
 -- What the gate tells to lanes.
-use Rattle.std.specs.Prelude.{ℕ, Bool, true, false, if◌then◌else◌, List, []}
+use Rattle.std.specs.Prelude.{ℕ, if◌then◌else◌, List, []}
 use Rattle.projection_laws.specs.Projections.{target_in}
 use Rattle.gate_core.specs.Seats.{GateView, SeatView, Placed}
 use Rattle.gate_core.specs.Histories.{entries_of_lane}
 use Rattle.gate_core.specs.declared.gate.Offer.{Offer}
 use Rattle.gate_core.specs.declared.gate.Offer.TheVariants as offer
-use Rattle.gate_core.specs.declared.gate.Begun.{Begun}
-use Rattle.gate_core.specs.declared.gate.Begun.TheVariants as begun
 use Rattle.replay_gate.specs.declared.turning.Turning.{Turning}
 use Rattle.replay_gate.specs.declared.turning.Turning.TheVariants as turning
 use Rattle.replay_gate.specs.declared.view.ReplayView.{ReplayView}
@@ -18,17 +16,6 @@ offer_of (turning.Committed clock reply) = offer.Committed clock reply
 offer_of (turning.NotYet clock) = offer.Again
 offer_of (turning.Differs clock) = offer.Leave
 offer_of turning.NoMemory = offer.NoMemory
-
-abbrev pub is_leave : Offer → Bool
-is_leave (offer.Committed clock reply) = false
-is_leave offer.Again = false
-is_leave offer.Leave = true
-is_leave offer.NoMemory = false
-
-abbrev pub is_over : Begun → Bool
-is_over (begun.Yes target) = false
-is_over begun.NotYet = false
-is_over begun.Over = true
 
 abbrev pub about_of : GateState → GateView
 about_of g = record { declarations = g.terms.start; lanes = g.terms.lanes }

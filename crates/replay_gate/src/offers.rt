@@ -1,6 +1,6 @@
 //! The gate as lanes work with it.
 ghost use Rattle.std.specs.Prelude.{◌≡◌, ◌||◌};
-ghost use Rattle.replay_gate.specs.Offers.{offer_of, is_leave, is_over};
+ghost use Rattle.replay_gate.specs.Offers.{offer_of};
 
 use crate::gate::{ReplayGate, ReplaySeat};
 use crate::turning::Turning;
@@ -17,27 +17,6 @@ fn offered(answer: Turning) -> Offer
         Turning::NotYet { clock: _ } => Offer::Again,
         Turning::Differs { clock: _ } => Offer::Leave,
         Turning::NoMemory => Offer::NoMemory,
-    }
-}
-
-fn leaves(offer: Offer) -> bool
-    ensures { result ≡ is_leave offer }
-{
-    match offer {
-        Offer::Leave => true,
-        Offer::Committed { .. } => false,
-        Offer::Again => false,
-        Offer::NoMemory => false,
-    }
-}
-
-fn ends(begun: Begun) -> bool
-    ensures { result ≡ is_over begun }
-{
-    match begun {
-        Begun::Over => true,
-        Begun::Yes(_) => false,
-        Begun::NotYet => false,
     }
 }
 
@@ -65,13 +44,13 @@ impl Gate for ReplayGate {
     fn offer(&self, alloc: Global, seat: &mut ReplaySeat, thread: u32, op: Op) -> Offer {
         let answer = self.try_turn(alloc, seat, thread, op);
         let offer = offered(answer);
-        tell_off(seat, leaves(offer));
+        tell_off(seat, offer.is_leave());
         offer
     }
 
     fn begun(&self, seat: &mut ReplaySeat, thread: u32) -> Begun {
         let begun = ReplayGate::begun(self, seat, thread);
-        tell_off(seat, ends(begun));
+        tell_off(seat, begun.is_over());
         begun
     }
 

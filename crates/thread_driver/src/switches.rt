@@ -1,15 +1,16 @@
 //! The times of a schedule in order, of which each event takes its own.
 
-ghost use Rattle.std.specs.Prelude.{◌≡◌, ◌≤◌, ◌+◌, length, drop, IfOk};
+ghost use Rattle.std.specs.Prelude.{◌≡◌, ◌≤◌, ◌+◌, length, drop, IfOk, IsPermutation};
 ghost use Rattle.machine_model.specs.Ring.{switches_at};
 ghost use Rattle.thread_driver.specs.Waiting.{Awaits, Rises};
 
 use std::alloc::Global;
 use vm_model::NoMemory;
 
-/// The times in rising order.
+/// The times in rising order, each as often as it was given.
 pub fn in_order(alloc: Global, times: &[u32]) -> Result<Vec<u32>, NoMemory>
     ensures awaits { IfOk result (λ v. Awaits times.now 0 v.items) }
+    ensures same { IfOk result (λ v. IsPermutation times.now v.items) }
     ensures size { IfOk result (λ v. length v.items ≡ length times.now) }
 {
     let mut sorted = Vec::from_slice(alloc, times)?;
