@@ -1,14 +1,14 @@
 //! A round of tests: the first resolved one decides.
 
-ghost use Rattle.std.specs.Prelude.{◌≡◌, ◌≤◌, ◌<◌, ◌+◌, ◌^◌, length, map, All, IfOk, IfErr, OnOk};
-ghost use Rattle.std.specs.List.{range_with_len};
+ghost use Rattle.std.specs.Prelude.{◌≡◌, ◌≤◌, ◌<◌, ◌+◌, ◌^◌, length, IfOk, IfErr, OnOk};
 ghost use Rattle.schedule_model.specs.Outcomes.{unresolved_among};
-ghost use Rattle.dd_isolator.specs.Rounds.{follower, made, round_of, round_size, test};
+ghost use Rattle.dd_isolator.specs.Rounds.{follower, made, round_of, round_size};
 ghost use Rattle.dd_isolator.specs.Answers.{Counts, Decides, HasSpent, IsFirstOf, IsSpent};
 
+use crate::batches::batch;
 use crate::fault::IsolateFault;
 use crate::state::SearchState;
-use schedule_model::{Found, Outcome, Rounds, Schedule};
+use schedule_model::{Found, Outcome, Rounds};
 use std::alloc::Global;
 use vm_model::NoMemory;
 
@@ -17,27 +17,6 @@ use vm_model::NoMemory;
 pub(crate) struct Decision {
     pub place: u64,
     pub outcome: Outcome,
-}
-
-/// So many tests of a round, from one on.
-fn batch(
-    alloc: Global,
-    state: &SearchState,
-    from: u64,
-    count: u64,
-) -> Result<Vec<Schedule>, NoMemory>
-    requires within { from + count ≤ round_size state.now }
-    requires few { from + count < 2 ^ 64 }
-    ensures tests { IfOk result (λ tests. tests.items ≡ map (λ i. (test state.now i).times) (range_with_len from count)) }
-    ensures sizes { IfOk result (λ tests. All (λ test. length test ≤ 16384) tests.items) }
-{
-    let end = from + count;
-    let mut tests = Vec::new(alloc);
-    for i in from..end {
-        let times = state.test(alloc, i)?;
-        tests.push(Schedule { times })?;
-    }
-    Ok(tests)
 }
 
 /// The first resolved one of so many tests of a round, from one on.

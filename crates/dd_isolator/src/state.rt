@@ -5,8 +5,9 @@ ghost use Rattle.schedule_model.specs.declared.outcome.Outcome.TheVariants.{Pass
 ghost use Rattle.schedule_model.specs.Outcomes.{is_resolved};
 ghost use Rattle.dd_isolator.specs.Rounds.{IsState, State, added, after, refined, round_size, state, taken, test, units_of};
 
+use crate::batches::NumberedTests;
 use crate::shifts::{copied, cut, units, with_units};
-use schedule_model::Outcome;
+use schedule_model::{Outcome, Schedule};
 use std::alloc::Global;
 use std::marker::Model;
 use vm_model::NoMemory;
@@ -196,5 +197,18 @@ impl SearchState {
         } else {
             Ok(None)
         }
+    }
+}
+
+impl NumberedTests for SearchState {
+    ghost use Rattle.dd_isolator.specs.Rounds.{round_size, test};
+
+    ghost size = { round_size };
+
+    ghost times = { λ s i. (test s i).times };
+
+    fn schedule(&self, alloc: Global, i: u64) -> Result<Schedule, NoMemory> {
+        let times = self.test(alloc, i)?;
+        Ok(Schedule { times })
     }
 }

@@ -1,13 +1,14 @@
 //! A round of tests: the first failing one decides.
 
-ghost use Rattle.std.specs.Prelude.{◌≡◌, ◌≤◌, ◌<◌, ◌+◌, ◌^◌, length, All, IfOk, IfErr, OnOk};
+ghost use Rattle.std.specs.Prelude.{◌≡◌, ◌≤◌, ◌<◌, ◌+◌, ◌^◌, length, IfOk, IfErr, OnOk};
 ghost use Rattle.schedule_model.specs.Outcomes.{unresolved_among};
 ghost use Rattle.switch_reducer.specs.Rounds.{follower, is_fail, made, round_of, round_size, schedules_within};
 ghost use Rattle.switch_reducer.specs.Answers.{Decides, HasSpent, IsAnswered, IsSpent};
 
 use crate::fault::ReduceFault;
 use crate::state::SearchState;
-use schedule_model::{Found, Outcome, Rounds, Schedule};
+use dd_isolator::batch;
+use schedule_model::{Found, Outcome, Rounds};
 use std::alloc::Global;
 use vm_model::NoMemory;
 
@@ -26,27 +27,6 @@ pub(crate) fn is_fail(outcome: Outcome) -> bool
         Outcome::Pass | Outcome::Unresolved => false,
         Outcome::Fail => true,
     }
-}
-
-/// So many tests of a round, from one on.
-fn batch(
-    alloc: Global,
-    state: &SearchState,
-    from: usize,
-    count: usize,
-) -> Result<Vec<Schedule>, NoMemory>
-    requires within { from + count ≤ round_size state.now }
-    requires few { from + count < 2 ^ 64 }
-    ensures tests { IfOk result (λ tests. tests.items ≡ schedules_within state.now from count) }
-    ensures sizes { IfOk result (λ tests. All (λ test. length test ≤ 16384) tests.items) }
-{
-    let end = from + count;
-    let mut tests = Vec::new(alloc);
-    for i in from..end {
-        let schedule = state.test(alloc, i)?.into_schedule();
-        tests.push(schedule)?;
-    }
-    Ok(tests)
 }
 
 /// The first of so many tests of a round, from one on, up to the first that passes or fails.
@@ -68,7 +48,7 @@ fn ask<R: Rounds>(
     ensures outcome { R.outcome rounds.new ≡ R.outcome rounds.old }
     ensures events { R.events rounds.new ≡ R.events rounds.old }
 {
-    let tests = batch(alloc, state, from, count)?;
+    let tests = batch(alloc, state, from as u64, count as u64)?;
     match rounds.first_resolved(alloc, tests.as_slice())? {
         Found::Resolved { at, outcome } => Ok(Answered {
             count: at as usize + 1,

@@ -4,6 +4,7 @@ ghost use Rattle.std.specs.Prelude.{◌≡◌, ◌≤◌, ◌<◌, ◌^◌, true
 ghost use Rattle.dd_isolator.specs.Shifts.{cut};
 ghost use Rattle.switch_reducer.specs.Rounds.{IsState, State, complement, part, refined, round_size, state, test};
 
+use dd_isolator::NumberedTests;
 use schedule_model::Schedule;
 use std::alloc::Global;
 use std::marker::Model;
@@ -136,5 +137,17 @@ impl SearchState {
         } else {
             Ok(None)
         }
+    }
+}
+
+impl NumberedTests for SearchState {
+    ghost use Rattle.switch_reducer.specs.Rounds.{round_size, test};
+
+    ghost size = { round_size };
+
+    ghost times = { λ s i. (test s i).times };
+
+    fn schedule(&self, alloc: Global, i: u64) -> Result<Schedule, NoMemory> {
+        Ok(self.test(alloc, i as usize)?.into_schedule())
     }
 }
