@@ -4,6 +4,7 @@ pub mod Parts
 pub mod Finding
 pub mod Testing
 pub mod Falling
+pub mod Following
 pub mod Searching
 pub mod Keeping
 pub mod Minimal

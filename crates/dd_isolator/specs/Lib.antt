@@ -1,6 +1,7 @@
 pub mod Shifts
 pub mod OneMinimal
 pub mod Rounds
+pub mod Following
 pub mod Search
 pub mod Laws
 pub mod MadeUp

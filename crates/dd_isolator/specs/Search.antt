@@ -1,33 +1,21 @@
 -- The whole search between a passing and a failing schedule: its states, its tests, and where it ends.
-use Rattle.std.specs.Prelude.{ℕ, zero, suc, ◌+◌, ◌-◌, ◌*◌, List, [], ◌∷◌, length, Option, Some, None, flat_map}
+use Rattle.std.specs.Prelude.{ℕ, ◌+◌, ◌-◌, ◌*◌, List, length, flat_map}
 use Rattle.schedule_model.specs.declared.outcome.Outcome.{Outcome}
 use Rattle.schedule_model.specs.Outcomes.{unresolved_among}
+use Rattle.dd_isolator.specs.Following.{states_within, last_of}
 use Rattle.dd_isolator.specs.Rounds.{State, units_of, start, round_of, follower, made}
 
 -- It falls from each state to its follower: fewer units, or as many and more parts.
 abbrev pub measure : State → ℕ
 measure s = units_of s * units_of s + (units_of s - s.parts)
 
-abbrev pub then_states : Option State → (State → List State) → List State
-then_states None go = []
-then_states (Some s) go = go s
-
--- a state and at most so many that follow it, one after another
-unfoldable pub states_within : (List ℕ → Outcome) → ℕ → State → List State
-states_within outcome zero s = s ∷ []
-states_within outcome (suc n) s = s ∷ then_states (follower outcome s) (λ t. states_within outcome n t)
-
 -- a state and all that follow it, to the one that has no follower
 unfoldable pub states_from : (List ℕ → Outcome) → State → List State
-states_from outcome s = states_within outcome (measure s) s
+states_from outcome s = states_within (follower outcome) (measure s) s
 
 -- the tests that are made from a state on, in order
 unfoldable pub tests_from : (List ℕ → Outcome) → State → List (List ℕ)
 tests_from outcome s = flat_map (λ t. made outcome (round_of t)) (states_from outcome s)
-
-abbrev pub last_of : State → List State → State
-last_of s [] = s
-last_of s (t ∷ ts) = last_of t ts
 
 unfoldable pub last_from : (List ℕ → Outcome) → State → State
 last_from outcome s = last_of s (states_from outcome s)
