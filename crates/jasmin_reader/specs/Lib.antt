@@ -14,4 +14,3 @@ pub mod LabelsView
 pub mod Assembly
 pub mod Turned
 pub mod Reading
-pub mod Canonical

@@ -14,10 +14,8 @@ mod mnemonic;
 mod names;
 mod read;
 mod words;
-mod writing;
 
 pub use class_text::{CatchText, ClassText, FieldText, LineText, MethodText, NameAt, Operand};
 pub use fault::{ReadFault, ReadKind};
 pub use names::is_class_name;
 pub use read::read_classes;
-pub use writing::write_classes;

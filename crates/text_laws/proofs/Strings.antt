@@ -5,7 +5,7 @@ use Rattle.std.proofs.lemmas.Bool.Decides.{nat_tests}
 use Rattle.std.proofs.lemmas.List.{append_assoc, length-append}
 use Rattle.jasmin_text.specs.declared.strings.Turn.TheVariants as turn
 use Rattle.jasmin_text.specs.Pieces.{is_plain, escaped, turn_of, with_byte, string_after}
-use Rattle.jasmin_reader.specs.Canonical.{quoted_byte, quoted}
+use Rattle.jasmin_writer.specs.Canonical.{quoted_byte, quoted}
 use Rattle.text_laws.specs.Sizes.{is_held, is_quotable}
 use Rattle.text_laws.proofs.Tests.{tested, is, and-first, and-second}
 

@@ -7,7 +7,7 @@ use Rattle.jasmin_text.specs.Texts.{tokens_of}
 use Rattle.jasmin_reader.specs.declared.form.Form.{Form}
 use Rattle.jasmin_reader.specs.declared.form.Form.TheVariants as form
 use Rattle.jasmin_reader.specs.declared.lexeme.Lexeme.TheVariants as lexeme
-use Rattle.jasmin_reader.specs.Canonical.{canonical}
+use Rattle.jasmin_writer.specs.Canonical.{canonical}
 use Rattle.jasmin_reader.specs.Plain.{PlainLineText, PlainMethodText, PlainClassText}
 use Rattle.jasmin_reader.specs.Lexemes.{lines_after}
 use Rattle.jasmin_reader.specs.Directives.{end_form}

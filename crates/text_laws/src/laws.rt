@@ -10,7 +10,7 @@ ghost use Rattle.jasmin_reader.specs.declared.fault.Refusal.{Refusal};
 ghost use Rattle.jasmin_reader.specs.declared.form.Form.{Form};
 ghost use Rattle.jasmin_reader.specs.declared.lexeme.Lexeme.{Lexeme};
 ghost use Rattle.jasmin_reader.specs.Assembly.{classes_of};
-ghost use Rattle.jasmin_reader.specs.Canonical.{quoted, canonical};
+ghost use Rattle.jasmin_writer.specs.Canonical.{quoted, canonical};
 ghost use Rattle.jasmin_reader.specs.Forms.{form_of};
 ghost use Rattle.jasmin_reader.specs.Grammar.{form_among};
 ghost use Rattle.jasmin_reader.specs.Lexemes.{PlainLine, lines_after};

@@ -2,9 +2,9 @@
 ghost use Rattle.std.specs.Prelude.{◌≡◌, ◌++◌, codes, decimal, OnOk, IfOk};
 ghost use Rattle.std.specs.Fmt.{signed_decimal};
 ghost use Rattle.std.specs.List.{flat_map};
-ghost use Rattle.jasmin_reader.specs.Canonical as spec;
+ghost use Rattle.jasmin_writer.specs.Canonical as spec;
 
-use crate::class_text::{CatchText, ClassText, FieldText, LineText, MethodText, NameAt, Operand};
+use jasmin_reader::{CatchText, ClassText, FieldText, LineText, MethodText, NameAt, Operand};
 use itoa::Buffer;
 use std::alloc::Global;
 use vm_model::{Name, NoMemory};

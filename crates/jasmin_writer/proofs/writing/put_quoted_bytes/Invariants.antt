@@ -1,10 +1,10 @@
 use Rattle.std.proofs.Common.{◌≡◌, ◌++◌, length}
 use Rattle.std.specs.List.{flat_map}
-use Rattle.jasmin_reader.specs.Canonical.{spaced_word}
-use Rattle.jasmin_reader.proofs.writing.put_words.Given as goal
+use Rattle.jasmin_writer.specs.Canonical.{quoted_byte}
+use Rattle.jasmin_writer.proofs.writing.put_quoted_bytes.Given as goal
 
 abbrev pub invariant-loop-rest : goal.invariant-loop-rest
-invariant-loop-rest l = l.out.items ++ flat_map spaced_word l.rest ≡ l.fn.out.items ++ flat_map spaced_word l.items
+invariant-loop-rest l = l.out.items ++ flat_map quoted_byte l.rest ≡ l.fn.out.items ++ flat_map quoted_byte l.items
 
 abbrev pub decreases-loop-rest : goal.decreases-loop-rest
 decreases-loop-rest l = length l.rest

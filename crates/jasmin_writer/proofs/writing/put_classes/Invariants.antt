@@ -1,10 +1,10 @@
 use Rattle.std.proofs.Common.{◌≡◌, ◌++◌, length}
 use Rattle.std.specs.List.{flat_map}
-use Rattle.jasmin_reader.specs.Canonical.{method_lines}
-use Rattle.jasmin_reader.proofs.writing.put_methods.Given as goal
+use Rattle.jasmin_writer.specs.Canonical.{class_text}
+use Rattle.jasmin_writer.proofs.writing.put_classes.Given as goal
 
 abbrev pub invariant-loop-rest : goal.invariant-loop-rest
-invariant-loop-rest l = l.out.items ++ flat_map method_lines l.rest ≡ l.fn.out.items ++ flat_map method_lines l.items
+invariant-loop-rest l = l.out.items ++ flat_map class_text l.rest ≡ l.fn.out.items ++ flat_map class_text l.items
 
 abbrev pub decreases-loop-rest : goal.decreases-loop-rest
 decreases-loop-rest l = length l.rest

@@ -1,7 +1,7 @@
 use Rattle.std.proofs.Common.{◌≡◌, ◌++◌, length}
 use Rattle.std.specs.List.{flat_map}
-use Rattle.jasmin_reader.specs.Canonical.{implements_line}
-use Rattle.jasmin_reader.proofs.writing.put_all_implements.Given as goal
+use Rattle.jasmin_writer.specs.Canonical.{implements_line}
+use Rattle.jasmin_writer.proofs.writing.put_all_implements.Given as goal
 
 abbrev pub invariant-loop-rest : goal.invariant-loop-rest
 invariant-loop-rest l = l.out.items ++ flat_map implements_line l.rest ≡ l.fn.out.items ++ flat_map implements_line l.items

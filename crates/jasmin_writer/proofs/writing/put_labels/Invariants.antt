@@ -1,10 +1,10 @@
 use Rattle.std.proofs.Common.{◌≡◌, ◌++◌, length}
 use Rattle.std.specs.List.{flat_map}
-use Rattle.jasmin_reader.specs.Canonical.{field_line}
-use Rattle.jasmin_reader.proofs.writing.put_fields.Given as goal
+use Rattle.jasmin_writer.specs.Canonical.{label_line}
+use Rattle.jasmin_writer.proofs.writing.put_labels.Given as goal
 
 abbrev pub invariant-loop-rest : goal.invariant-loop-rest
-invariant-loop-rest l = l.out.items ++ flat_map field_line l.rest ≡ l.fn.out.items ++ flat_map field_line l.items
+invariant-loop-rest l = l.out.items ++ flat_map label_line l.rest ≡ l.fn.out.items ++ flat_map label_line l.items
 
 abbrev pub decreases-loop-rest : goal.decreases-loop-rest
 decreases-loop-rest l = length l.rest
