@@ -1,18 +1,18 @@
 -- Text constants, labels, and what is wrong with bodies.
 use Rattle.std.specs.Prelude.{ℕ, if◌then◌else◌, nat_le, List, [], ◌∷◌, ◌++◌, is_some, Option, Some, None, Result, Ok, Err}
 use Rattle.vm_model.specs.declared.limits.TheConstants.{MOST_INSTRUCTIONS}
-use Rattle.jasmin_reader.specs.declared.class_text.Operand.{Operand}
-use Rattle.jasmin_reader.specs.declared.class_text.Operand.TheVariants as operand
-use Rattle.jasmin_reader.specs.declared.class_text.CatchText.{CatchText}
-use Rattle.jasmin_reader.specs.Plain.{PlainClassText, PlainMethodText, PlainLineText}
+use Rattle.jasmin_lines.specs.declared.class_text.Operand.{Operand}
+use Rattle.jasmin_lines.specs.declared.class_text.Operand.TheVariants as operand
+use Rattle.jasmin_lines.specs.declared.class_text.CatchText.{CatchText}
+use Rattle.jasmin_lines.specs.Plain.{PlainClassText, PlainMethodText, PlainLineText}
 use Rattle.vm_model.specs.declared.instr.Instr.{Instr}
-use Rattle.class_linker.specs.declared.fault.LinkKind.{LinkKind}
-use Rattle.class_linker.specs.declared.fault.LinkKind.TheVariants.{TooMany, OutOfProfile}
+use Rattle.name_resolver.specs.declared.fault.LinkKind.{LinkKind}
+use Rattle.name_resolver.specs.declared.fault.LinkKind.TheVariants.{TooMany, OutOfProfile}
 use Rattle.class_linker.specs.declared.fault.Refusal.{Refusal}
-use Rattle.class_linker.specs.declared.names.Names.{Names}
+use Rattle.name_resolver.specs.declared.names.Names.{Names}
 use Rattle.class_linker.specs.Faults.{noted, only_if}
-use Rattle.class_linker.specs.Index.{Rows, value_of, with_row}
-use Rattle.class_linker.specs.Names.{next}
+use Rattle.name_resolver.specs.Index.{Rows, value_of, with_row}
+use Rattle.name_resolver.specs.Names.{next}
 use Rattle.class_linker.specs.Linked.{linked}
 
 -- ---- text constants, each once, in the order of the text

@@ -1,19 +1,8 @@
 -- Faults, and which of two comes first.
 use Rattle.std.specs.Prelude.{ℕ, ◌&&◌, ◌||◌, Bool, ◌==◌, nat_lt, if◌then◌else◌, Option, Some, None}
-use Rattle.class_linker.specs.declared.fault.LinkKind.{LinkKind}
-use Rattle.class_linker.specs.declared.fault.LinkKind.TheVariants.{NoMain, UnknownClass, UnknownField, UnknownMethod, UnknownLabel, Twice, BadDescriptor, TooMany, OutOfProfile}
+use Rattle.name_resolver.specs.declared.fault.LinkKind.{LinkKind}
 use Rattle.class_linker.specs.declared.fault.Refusal.{Refusal}
-
-abbrev pub kind_number : LinkKind → ℕ
-kind_number NoMain = 1
-kind_number UnknownClass = 2
-kind_number UnknownField = 3
-kind_number UnknownMethod = 4
-kind_number UnknownLabel = 5
-kind_number Twice = 6
-kind_number BadDescriptor = 7
-kind_number TooMany = 8
-kind_number OutOfProfile = 9
+use Rattle.name_resolver.specs.Faults.{kind_number}
 
 -- the first of two faults: that of the lesser line, and on one line that of the lesser kind
 abbrev pub is_before : Refusal → Refusal → Bool

@@ -3,22 +3,22 @@ use Rattle.std.specs.Prelude.{ℕ, ◌+◌, Bool, true, false, not, ◌&&◌, �
 use Rattle.std.specs.List.{list_any}
 use Rattle.vm_model.specs.declared.limits.TheConstants.{FIRST_USER_CLASS, MOST_CLASSES, MOST_FIELDS, MOST_LOCALS, MOST_METHODS, MOST_OPERANDS, MOST_PARAMETERS, MOST_STATICS}
 use Rattle.vm_model.specs.declared.value.Kind.TheVariants as kind
-use Rattle.jasmin_reader.specs.declared.class_text.NameAt.{NameAt}
-use Rattle.jasmin_reader.specs.Plain.{PlainClassText, PlainFieldText, PlainMethodText}
-use Rattle.class_linker.specs.declared.descriptors.Typed.{Typed}
-use Rattle.class_linker.specs.declared.descriptors.Typed.TheVariants as typed
-use Rattle.class_linker.specs.declared.fault.LinkKind.{LinkKind}
-use Rattle.class_linker.specs.declared.fault.LinkKind.TheVariants.{UnknownClass, UnknownMethod, Twice, BadDescriptor, TooMany, OutOfProfile}
+use Rattle.jasmin_lines.specs.declared.class_text.NameAt.{NameAt}
+use Rattle.jasmin_lines.specs.Plain.{PlainClassText, PlainFieldText, PlainMethodText}
+use Rattle.name_resolver.specs.declared.descriptors.Typed.{Typed}
+use Rattle.name_resolver.specs.declared.descriptors.Typed.TheVariants as typed
+use Rattle.name_resolver.specs.declared.fault.LinkKind.{LinkKind}
+use Rattle.name_resolver.specs.declared.fault.LinkKind.TheVariants.{UnknownClass, UnknownMethod, Twice, BadDescriptor, TooMany, OutOfProfile}
 use Rattle.class_linker.specs.declared.fault.Refusal.{Refusal}
-use Rattle.class_linker.specs.declared.names.Counts.{Counts}
-use Rattle.class_linker.specs.declared.names.Names.{Names}
+use Rattle.name_resolver.specs.declared.names.Counts.{Counts}
+use Rattle.name_resolver.specs.declared.names.Names.{Names}
 use Rattle.class_linker.specs.Faults.{noted, only_if}
-use Rattle.class_linker.specs.Index.{value_of}
-use Rattle.class_linker.specs.Words.{has_foreign_flag, field_word, method_key}
+use Rattle.name_resolver.specs.Index.{value_of}
+use Rattle.name_resolver.specs.Words.{has_foreign_flag, field_word, method_key, is_init}
 use Rattle.built_in_classes.specs.Classes.{built_in_number}
-use Rattle.class_linker.specs.BuiltIn.{is_reserved}
-use Rattle.class_linker.specs.Descriptors.{PlainSignature, type_of, method_signature, in_signature, is_unknown, is_bad, is_outside}
-use Rattle.class_linker.specs.Names.{is_named, is_thread, is_static, class_begun, field_counted, method_counted, counted_if}
+use Rattle.name_resolver.specs.BuiltIn.{is_reserved}
+use Rattle.name_resolver.specs.Descriptors.{PlainSignature, type_of, method_signature, in_signature, is_unknown, is_bad, is_outside}
+use Rattle.name_resolver.specs.Names.{is_named, is_thread, is_static, class_begun, field_counted, method_counted, counted_if}
 
 abbrev pub is_this : ℕ → Option ℕ → Bool
 is_this n None = false
@@ -74,9 +74,6 @@ typed_field_fault names class f n t is_full =
 abbrev pub above : ℕ → Option ℕ → Bool
 above limit None = false
 above limit (Some n) = nat_lt limit n
-
-abbrev pub is_init : List ℕ → Bool
-is_init name = bytes_eq name (codes "<init>")
 
 abbrev pub gives_wrong : PlainMethodText → PlainSignature → Bool
 gives_wrong m s = in_signature is_bad s || (is_init m.name && is_some s.gives)

@@ -1,14 +1,5 @@
 pub mod Faults
-pub mod Index
-pub mod IndexView
-pub mod Words
-pub mod BuiltIn
-pub mod Tables
-pub mod Descriptors
-pub mod Names
 pub mod Judging
-pub mod Lines
-pub mod Calls
 pub mod Linked
 pub mod Bodies
 pub mod Programs

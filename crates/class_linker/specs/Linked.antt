@@ -3,22 +3,18 @@ use Rattle.std.specs.Prelude.{ℕ, Bool, ◌||◌, if◌then◌else◌, nat_lt, 
 use Rattle.vm_model.specs.declared.limits.TheConstants.{MOST_TEXT_CONSTANT_BYTES}
 use Rattle.vm_model.specs.declared.instr.Instr.{Instr}
 use Rattle.vm_model.specs.declared.instr.Instr.TheVariants as instr
-use Rattle.jasmin_reader.specs.declared.class_text.Operand.{Operand}
-use Rattle.jasmin_reader.specs.declared.class_text.Operand.TheVariants as operand
-use Rattle.jasmin_reader.specs.Plain.{PlainLineText}
-use Rattle.class_linker.specs.declared.fault.LinkKind.{LinkKind}
-use Rattle.class_linker.specs.declared.fault.LinkKind.TheVariants.{UnknownClass, UnknownLabel, TooMany, OutOfProfile}
-use Rattle.class_linker.specs.declared.names.Names.{Names}
-use Rattle.class_linker.specs.Lines.{◌>>=◌, or_fault}
-use Rattle.class_linker.specs.Index.{Rows, value_of}
+use Rattle.jasmin_lines.specs.declared.class_text.Operand.{Operand}
+use Rattle.jasmin_lines.specs.declared.class_text.Operand.TheVariants as operand
+use Rattle.jasmin_lines.specs.Plain.{PlainLineText}
+use Rattle.jasmin_lines.specs.Tables.{row_of}
+use Rattle.name_resolver.specs.declared.fault.LinkKind.{LinkKind}
+use Rattle.name_resolver.specs.declared.fault.LinkKind.TheVariants.{UnknownClass, UnknownLabel, TooMany, OutOfProfile}
+use Rattle.name_resolver.specs.declared.names.Names.{Names}
+use Rattle.name_resolver.specs.Lines.{◌>>=◌, or_fault}
+use Rattle.name_resolver.specs.Index.{Rows, value_of}
 use Rattle.built_in_classes.specs.Classes.{has_objects}
-use Rattle.class_linker.specs.Descriptors.{class_of}
-use Rattle.class_linker.specs.Calls.{call, field}
-
--- what the first row of this word says
-abbrev pub row_of : {A : Type 0} → List ℕ → List (List ℕ × A) → Option A
-row_of word [] = None
-row_of word (row ∷ rows) = if bytes_eq row.0 word then Some row.1 else row_of word rows
+use Rattle.name_resolver.specs.Descriptors.{class_of}
+use Rattle.name_resolver.specs.Calls.{call, field}
 
 -- instructions without operands
 unfoldable pub alone : List (List ℕ × Instr)

@@ -10,13 +10,13 @@ use Rattle.vm_model.specs.declared.value.Kind.TheVariants as kind
 use Rattle.vm_model.specs.declared.value.Value.{Value}
 use Rattle.vm_model.specs.declared.value.Value.TheVariants as value
 use Rattle.built_in_classes.specs.declared.numbers.TheConstants.{RUNNABLE, THREAD}
-use Rattle.jasmin_reader.specs.Plain.{PlainClassText, PlainFieldText, PlainMethodText, PlainLineText}
-use Rattle.class_linker.specs.declared.fault.LinkKind.{LinkKind}
-use Rattle.class_linker.specs.declared.names.Names.{Names}
-use Rattle.class_linker.specs.Index.{Rows, value_of}
-use Rattle.class_linker.specs.Words.{has, method_key}
-use Rattle.class_linker.specs.Descriptors.{PlainSignature, type_of, method_signature, kind_of, kind_given}
-use Rattle.class_linker.specs.Names.{is_thread, is_static, next}
+use Rattle.jasmin_lines.specs.Plain.{PlainClassText, PlainFieldText, PlainMethodText, PlainLineText}
+use Rattle.name_resolver.specs.declared.fault.LinkKind.{LinkKind}
+use Rattle.name_resolver.specs.declared.names.Names.{Names}
+use Rattle.name_resolver.specs.Index.{Rows, value_of}
+use Rattle.name_resolver.specs.Words.{has, method_key}
+use Rattle.name_resolver.specs.Descriptors.{PlainSignature, type_of, method_signature, kind_of, kind_given}
+use Rattle.name_resolver.specs.Names.{is_thread, is_static, next}
 use Rattle.class_linker.specs.Linked.{linked}
 use Rattle.class_linker.specs.Bodies.{labels_of}
 

@@ -3,12 +3,11 @@ ghost use Rattle.std.specs.Prelude.{◌≡◌, OnOk, IfOk, Ok};
 ghost use Rattle.class_linker.specs.Bodies as spec;
 ghost use Rattle.class_linker.specs.Linked.{linked};
 
-use crate::fault::{LineError, LinkKind, Refusal};
-use crate::index::Index;
+use crate::fault::Refusal;
 use crate::instructions::linked;
 use crate::least::{noted, only_if};
-use crate::names::{Names, next};
-use jasmin_reader::{CatchText, ClassText, LineText, MethodText, Operand};
+use jasmin_lines::{CatchText, ClassText, LineText, MethodText, Operand};
+use name_resolver::{Index, LineError, LinkKind, Names, next};
 use std::alloc::Global;
 use std::marker::Model;
 use vm_model::{Instr, MOST_INSTRUCTIONS, Name, NoMemory};

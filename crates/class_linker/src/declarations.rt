@@ -1,20 +1,18 @@
 // What is wrong with declarations.
 ghost use Rattle.std.specs.Prelude.{◌≡◌, ◌≤◌, IfOk};
-ghost use Rattle.class_linker.specs.Descriptors.{type_of, method_signature};
-ghost use Rattle.class_linker.specs.Index.{value_of};
+ghost use Rattle.name_resolver.specs.Descriptors.{type_of, method_signature};
+ghost use Rattle.name_resolver.specs.Index.{value_of};
 ghost use Rattle.class_linker.specs.Judging as spec;
-ghost use Rattle.class_linker.specs.Words.{field_word, method_key};
+ghost use Rattle.name_resolver.specs.Words.{field_word, is_init, method_key};
 
-use crate::built_in::is_reserved;
-use crate::descriptors::{
-    Signature, Typed, is_bad, is_outside, is_unknown, method_signature, type_of,
-};
-use crate::fault::{LinkKind, Refusal};
+use crate::fault::Refusal;
 use crate::least::{noted, only_if};
-use crate::names::{Counts, Names, is_named, is_static};
-use crate::words::{field_word, has_foreign_flag, is, method_key};
 use built_in_classes::built_in_number;
-use jasmin_reader::{ClassText, FieldText, MethodText, NameAt};
+use jasmin_lines::{ClassText, FieldText, MethodText, NameAt, is};
+use name_resolver::{
+    Counts, LinkKind, Names, Signature, Typed, field_word, has_foreign_flag, is_bad, is_named,
+    is_outside, is_reserved, is_static, is_unknown, method_key, method_signature, type_of,
+};
 use std::alloc::Global;
 use vm_model::{
     FIRST_USER_CLASS, Kind, MOST_CLASSES, MOST_FIELDS, MOST_LOCALS, MOST_METHODS, MOST_OPERANDS,
@@ -151,7 +149,7 @@ fn above(limit: u32, number: Option<u32>) -> bool
 }
 
 fn is_init(name: &[u8]) -> bool
-    ensures { result ≡ spec.is_init name.now }
+    ensures { result ≡ is_init name.now }
 {
     is(name, b"<init>")
 }

@@ -1,20 +1,14 @@
 // Instructions with numbers in place of names.
 ghost use Rattle.std.specs.Prelude.{◌≡◌, Ok};
-ghost use Rattle.class_linker.specs.Index.{value_of};
-ghost use Rattle.class_linker.specs.Lines.{Gives, or_fault};
-ghost use Rattle.class_linker.specs.declared.fault.LinkKind.TheVariants.{OutOfProfile};
+ghost use Rattle.name_resolver.specs.Index.{value_of};
+ghost use Rattle.name_resolver.specs.Lines.{Gives, or_fault};
+ghost use Rattle.name_resolver.specs.declared.fault.LinkKind.TheVariants.{OutOfProfile};
 ghost use Rattle.class_linker.specs.Linked as spec;
-ghost use Rattle.class_linker.specs.Tables.{instr_rows};
+ghost use Rattle.jasmin_lines.specs.Tables.{row_of};
 
-use crate::built_in::first_some;
-use crate::calls::{call, field};
-use crate::descriptors::class_of;
-use crate::fault::{LineError, LinkKind};
-use crate::index::Index;
-use crate::names::Names;
-use crate::words::is;
 use built_in_classes::has_objects;
-use jasmin_reader::{LineText, Operand};
+use jasmin_lines::{LineText, Operand, is, row_of};
+use name_resolver::{Index, LineError, LinkKind, Names, call, class_of, field, first_some};
 use std::alloc::Global;
 use vm_model::{Instr, MOST_TEXT_CONSTANT_BYTES};
 
@@ -51,22 +45,9 @@ const ALONE: [(&[u8], Instr); 30] = [
     (b"areturn", Instr::Areturn),
 ];
 
-fn row_of(rows: &[(&[u8], Instr)], word: &[u8]) -> Option<Instr>
-    ensures { result ≡ spec.row_of word.now (instr_rows rows.now) }
-{
-    let mut rest = rows;
-    while let [row, after @ ..] = rest {
-        if is(row.0, word) {
-            return Some(row.1);
-        }
-        rest = after;
-    }
-    None
-}
-
 /// An instruction without operands.
 fn alone(word: &[u8]) -> Option<Instr>
-    ensures { result ≡ spec.row_of word.now spec.alone }
+    ensures { result ≡ row_of word.now spec.alone }
 {
     row_of(&ALONE, word)
 }

@@ -2,7 +2,8 @@
 ghost use Rattle.std.specs.Prelude.{◌≡◌};
 ghost use Rattle.class_linker.specs.Faults as spec;
 
-use crate::fault::{LinkKind, Refusal};
+use crate::fault::Refusal;
+use name_resolver::LinkKind;
 
 fn is_before(a: Refusal, b: Refusal) -> bool
     ensures { result ≡ spec.is_before a b }

@@ -2,18 +2,12 @@
 #![tactic(auto)]
 
 mod bodies;
-mod built_in;
-mod calls;
 mod declarations;
-mod descriptors;
 mod fault;
-mod index;
 mod instructions;
 mod least;
 mod linking;
-mod names;
 mod program;
-mod words;
 
-pub use fault::{LinkFault, LinkKind};
+pub use fault::LinkFault;
 pub use linking::link;

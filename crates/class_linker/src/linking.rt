@@ -5,10 +5,10 @@ ghost use Rattle.class_linker.specs.Linking as spec;
 
 use crate::bodies::{Texts, judge_bodies, texts_of};
 use crate::declarations::judge_classes;
-use crate::fault::{LinkFault, LinkKind, Refusal};
-use crate::names::{Counts, Names, names_of};
+use crate::fault::{LinkFault, Refusal};
 use crate::program::{linked_classes, methods_of, slots_of};
-use jasmin_reader::ClassText;
+use jasmin_lines::ClassText;
+use name_resolver::{Counts, LinkKind, Names, names_of};
 use std::alloc::Global;
 use vm_model::{NoMemory, Program};
 

@@ -5,14 +5,13 @@ ghost use Rattle.class_linker.specs.Linked.{linked};
 ghost use Rattle.class_linker.specs.Programs as spec;
 
 use crate::bodies::labels_of;
-use crate::descriptors::{Signature, kind_of, method_signature, type_of};
-use crate::fault::LineError;
-use crate::index::Index;
 use crate::instructions::linked;
-use crate::names::{Names, is_static, is_thread, next};
-use crate::words::{has, method_key};
 use built_in_classes::{RUNNABLE, THREAD};
-use jasmin_reader::{ClassText, FieldText, LineText, MethodText};
+use jasmin_lines::{ClassText, FieldText, LineText, MethodText};
+use name_resolver::{
+    Index, LineError, Names, Signature, has, is_static, is_thread, kind_of, method_key,
+    method_signature, next, type_of,
+};
 use std::alloc::Global;
 use vm_model::{
     Class, FIRST_USER_CLASS, Field, Instr, Kind, Method, Name, NoMemory, StaticSlot, Value,

@@ -8,8 +8,8 @@ use Rattle.machine_model.specs.Declarations.{declarations_of}
 use Rattle.machine_model.specs.Kinds.{fits}
 use Rattle.machine_model.specs.Shared.{start_of_slot}
 use Rattle.shared_world.specs.Fitting.{AllFit, FirstValuesFit, kind_of_slot}
-use Rattle.jasmin_reader.specs.Plain.{PlainClassText}
-use Rattle.class_linker.specs.Names.{names_of}
+use Rattle.jasmin_lines.specs.Plain.{PlainClassText}
+use Rattle.name_resolver.specs.Names.{names_of}
 use Rattle.class_linker.specs.Linking.{linking}
 use Rattle.shape_laws.specs.Fitting.{is_made, is_of}
 use Rattle.shape_laws.proofs.Tests.{both}

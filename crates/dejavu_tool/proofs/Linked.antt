@@ -9,9 +9,9 @@ use Rattle.shape_laws.specs.Linked.{IsWellLinked, NamesWhatIsThere}
 use Rattle.shape_laws.proofs.FirstOperation.{program_begins}
 use Rattle.jasmin_text.specs.declared.token.Token.{Token}
 use Rattle.jasmin_text.specs.Texts.{Spoiled, tokens_of}
-use Rattle.jasmin_reader.specs.declared.fault.ReadKind.TheVariants.{TooMany}
+use Rattle.jasmin_lines.specs.declared.fault.ReadKind.TheVariants.{TooMany}
 use Rattle.jasmin_reader.specs.declared.fault.Refusal as read
-use Rattle.jasmin_reader.specs.Plain.{PlainClassText}
+use Rattle.jasmin_lines.specs.Plain.{PlainClassText}
 use Rattle.jasmin_reader.specs.Reading.{reading}
 use Rattle.class_linker.specs.declared.fault.Refusal as link
 use Rattle.class_linker.specs.Linking.{linking}

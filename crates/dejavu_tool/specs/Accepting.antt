@@ -4,9 +4,9 @@ use Rattle.vm_model.specs.declared.limits.TheConstants.{MOST_TEXT_BYTES}
 use Rattle.vm_model.specs.Program.{PlainProgram}
 use Rattle.jasmin_text.specs.declared.token.Token.{Token}
 use Rattle.jasmin_text.specs.Texts.{Spoiled, tokens_of}
-use Rattle.jasmin_reader.specs.declared.fault.ReadKind.TheVariants.{TooMany}
+use Rattle.jasmin_lines.specs.declared.fault.ReadKind.TheVariants.{TooMany}
 use Rattle.jasmin_reader.specs.declared.fault.Refusal as read
-use Rattle.jasmin_reader.specs.Plain.{PlainClassText}
+use Rattle.jasmin_lines.specs.Plain.{PlainClassText}
 use Rattle.jasmin_reader.specs.Reading.{reading}
 use Rattle.class_linker.specs.declared.fault.Refusal as link
 use Rattle.class_linker.specs.Linking.{linking}

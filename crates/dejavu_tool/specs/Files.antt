@@ -10,8 +10,8 @@ use Rattle.schedule_log.specs.Spelling.{Spells}
 use Rattle.switch_schedule.specs.declared.fault.ScheduleKind.{ScheduleKind}
 use Rattle.switch_schedule.specs.Texts as times
 use Rattle.jasmin_text.specs.Texts as texts
-use Rattle.jasmin_reader.specs.Faults as read
-use Rattle.class_linker.specs.Faults as link
+use Rattle.jasmin_lines.specs.Faults as read
+use Rattle.name_resolver.specs.Faults as link
 use Rattle.shape_verifier.specs.declared.fault.ShapeKind.{ShapeKind}
 use Rattle.shape_verifier.specs.Judging as shape
 use Rattle.dejavu_tool.specs.declared.status.Status.{Status}

@@ -8,7 +8,7 @@ ghost use Rattle.machine_model.specs.LocalStep.{pending_operation};
 ghost use Rattle.machine_model.specs.Machine.{MachineState, end_of, run, start_machine};
 ghost use Rattle.machine_model.specs.Shapes.{Table, IsShapeTable};
 ghost use Rattle.shared_world.specs.Fitting.{FirstValuesFit};
-ghost use Rattle.jasmin_reader.specs.Plain.{PlainClassText};
+ghost use Rattle.jasmin_lines.specs.Plain.{PlainClassText};
 ghost use Rattle.class_linker.specs.Linking.{linking};
 ghost use Rattle.shape_laws.specs.Worlds.{FitsMachine};
 ghost use Rattle.dejavu_tool.specs.Accepting.{IsAccepted};

@@ -7,9 +7,11 @@ ghost use Rattle.linking_laws.specs.Limits.{HasFewClasses, HasFewStatics};
 ghost use Rattle.machine_model.specs.Machine.{end_of, start_machine};
 ghost use Rattle.dejavu_tool.specs.Accepting.{Gives, IsAccepted, Refuses, by_classes, by_link, by_tokens, linked};
 
-use class_linker::{LinkFault, LinkKind, link};
-use jasmin_reader::{ClassText, ReadFault, ReadKind, read_classes};
+use class_linker::{LinkFault, link};
+use jasmin_lines::{ClassText, ReadKind};
+use jasmin_reader::{ReadFault, read_classes};
 use jasmin_text::{TextFault, TextKind, Token, tokens};
+use name_resolver::LinkKind;
 use shape_verifier::{ShapeFault, ShapeKind, Shaped, verify};
 use std::alloc::Global;
 use vm_model::{MOST_TEXT_BYTES, Program};

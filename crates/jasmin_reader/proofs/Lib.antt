@@ -1,5 +1,4 @@
 pub mod Fronts
-pub mod Flags
 pub mod Within
 pub mod Parts
 pub mod KeptNames

@@ -2,18 +2,18 @@
 use Rattle.std.proofs.Common.{◌≡◌, ℕ, Bool, true, false, not, ◌&&◌, ◌||◌, List, [], ◌∷◌, Option, Some, None, Result, Ok, Err, cond, refl, subst, ℤ}
 use Rattle.std.specs.Prelude.{bytes_eq, codes, pos}
 use Rattle.std.specs.List.{list_any}
-use Rattle.jasmin_reader.specs.declared.fault.ReadKind.{ReadKind}
-use Rattle.jasmin_reader.specs.declared.fault.ReadKind.TheVariants.{NoClass, OutsideMethod, LabelTwice}
-use Rattle.jasmin_reader.specs.declared.form.Form.{Form}
-use Rattle.jasmin_reader.specs.declared.form.Form.TheVariants as form
-use Rattle.jasmin_reader.specs.declared.lexeme.Lexeme.{Lexeme}
-use Rattle.jasmin_reader.specs.declared.lexeme.Lexeme.TheVariants as lexeme
-use Rattle.jasmin_reader.specs.Faults.{◌>>=◌}
-use Rattle.jasmin_reader.specs.Lexemes.{PlainLine}
-use Rattle.jasmin_reader.specs.Words.{one, two, word_of, number_of, is_word, named, is_name, is_class_name, is_method_name, name_of, class_name_of, described}
-use Rattle.jasmin_reader.specs.Instructions.{instruction}
-use Rattle.jasmin_reader.specs.Directives.{class_flags, field_flags, method_flags, split_last, source_form, class_form, name_at, valued, field_of, method_form, limit_form, end_form, catch_of, catch_form, class_directive, method_directive, directive_form}
-use Rattle.jasmin_reader.specs.Forms.{unlabelled_form, labelled_form, label_of, coded, begins_with_dot, form_of}
+use Rattle.jasmin_lines.specs.declared.fault.ReadKind.{ReadKind}
+use Rattle.jasmin_lines.specs.declared.fault.ReadKind.TheVariants.{NoClass, OutsideMethod, LabelTwice}
+use Rattle.jasmin_lines.specs.declared.form.Form.{Form}
+use Rattle.jasmin_lines.specs.declared.form.Form.TheVariants as form
+use Rattle.jasmin_lines.specs.declared.lexeme.Lexeme.{Lexeme}
+use Rattle.jasmin_lines.specs.declared.lexeme.Lexeme.TheVariants as lexeme
+use Rattle.jasmin_lines.specs.Faults.{◌>>=◌}
+use Rattle.jasmin_lines.specs.Lexemes.{PlainLine}
+use Rattle.jasmin_lines.specs.Words.{one, two, word_of, number_of, is_word, named, is_name, is_class_name, is_method_name, name_of, class_name_of, described}
+use Rattle.jasmin_lines.specs.Instructions.{instruction}
+use Rattle.jasmin_lines.specs.Directives.{class_flags, field_flags, method_flags, split_last, source_form, class_form, name_at, valued, field_of, method_form, limit_form, end_form, catch_of, catch_form, class_directive, method_directive, directive_form}
+use Rattle.jasmin_lines.specs.Forms.{unlabelled_form, labelled_form, label_of, coded, begins_with_dot, form_of}
 use Rattle.jasmin_reader.specs.Grammar.{PlainState, only_if, inside_method, has_label, misplaced, is_end, may_stand_first, placed, form_among}
 use Rattle.jasmin_reader.specs.Labels.{labels_in, are_new}
 

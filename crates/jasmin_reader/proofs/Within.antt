@@ -5,7 +5,7 @@ use Rattle.jasmin_text.specs.declared.token.Token.{Token}
 use Rattle.jasmin_text.specs.Spans.{AreInOrder}
 use Rattle.jasmin_text.specs.Texts.{tokens_of}
 use Rattle.jasmin_text.proofs.InOrder.{spans}
-use Rattle.jasmin_reader.specs.Lexemes.{IsWithin}
+use Rattle.jasmin_lines.specs.Lexemes.{IsWithin}
 
 reach : (from end : ℕ) (ts : List Token) → AreInOrder from end ts → from ≤ end
 reach from end [] h = h

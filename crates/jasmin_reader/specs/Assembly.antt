@@ -1,11 +1,11 @@
 -- Classes from the forms of lines. Each form is added to what the forms after it give.
 use Rattle.std.specs.Prelude.{ℕ, List, [], ◌∷◌, Option, Some, None}
-use Rattle.jasmin_reader.specs.declared.class_text.NameAt.{NameAt}
-use Rattle.jasmin_reader.specs.declared.class_text.CatchText.{CatchText}
-use Rattle.jasmin_reader.specs.declared.form.Form.{Form}
-use Rattle.jasmin_reader.specs.declared.form.Form.TheVariants as form
-use Rattle.jasmin_reader.specs.Plain.{PlainLineText, PlainFieldText, PlainMethodText, PlainClassText}
-use Rattle.jasmin_reader.specs.Directives.{empty_class}
+use Rattle.jasmin_lines.specs.declared.class_text.NameAt.{NameAt}
+use Rattle.jasmin_lines.specs.declared.class_text.CatchText.{CatchText}
+use Rattle.jasmin_lines.specs.declared.form.Form.{Form}
+use Rattle.jasmin_lines.specs.declared.form.Form.TheVariants as form
+use Rattle.jasmin_lines.specs.Plain.{PlainLineText, PlainFieldText, PlainMethodText, PlainClassText}
+use Rattle.jasmin_lines.specs.Directives.{empty_class}
 
 -- what stands in a method whose first line is still to come
 pub record PlainBody : Type 0 where

@@ -1,15 +1,15 @@
 -- Which line may follow which: what the lines before a line have begun, and the fault of a line that doesn't fit.
 use Rattle.std.specs.Prelude.{ℕ, Bool, true, false, not, ◌&&◌, ◌||◌, if◌then◌else◌, List, [], ◌∷◌, ◌++◌, codes, bytes_eq, Option, Some, None, Result, Ok, Err}
 use Rattle.std.specs.List.{list_any}
-use Rattle.jasmin_reader.specs.declared.fault.ReadKind.{ReadKind}
-use Rattle.jasmin_reader.specs.declared.fault.ReadKind.TheVariants.{NoClass, OutsideMethod, InMethod, NoSuper, LabelTwice, EndMissing, Repeat}
-use Rattle.jasmin_reader.specs.declared.form.Form.{Form}
-use Rattle.jasmin_reader.specs.declared.form.Form.TheVariants as form
-use Rattle.jasmin_reader.specs.declared.lexeme.Lexeme.{Lexeme}
-use Rattle.jasmin_reader.specs.Faults.{◌>>=◌}
-use Rattle.jasmin_reader.specs.Lexemes.{PlainLine}
-use Rattle.jasmin_reader.specs.Words.{is_word}
-use Rattle.jasmin_reader.specs.Forms.{form_of}
+use Rattle.jasmin_lines.specs.declared.fault.ReadKind.{ReadKind}
+use Rattle.jasmin_lines.specs.declared.fault.ReadKind.TheVariants.{NoClass, OutsideMethod, InMethod, NoSuper, LabelTwice, EndMissing, Repeat}
+use Rattle.jasmin_lines.specs.declared.form.Form.{Form}
+use Rattle.jasmin_lines.specs.declared.form.Form.TheVariants as form
+use Rattle.jasmin_lines.specs.declared.lexeme.Lexeme.{Lexeme}
+use Rattle.jasmin_lines.specs.Faults.{◌>>=◌}
+use Rattle.jasmin_lines.specs.Lexemes.{PlainLine}
+use Rattle.jasmin_lines.specs.Words.{is_word}
+use Rattle.jasmin_lines.specs.Forms.{form_of}
 
 -- what the lines so far have begun: a class, its super, a method, the limits and the labels of that method
 pub record PlainState : Type 0 where

@@ -1,8 +1,8 @@
 -- The labels that stand in a line, and whether they are new.
 use Rattle.std.specs.Prelude.{ℕ, Bool, true, not, ◌&&◌, List, [], ◌∷◌, ◌++◌, bytes_eq}
 use Rattle.std.specs.List.{list_any}
-use Rattle.jasmin_reader.specs.declared.form.Form.{Form}
-use Rattle.jasmin_reader.specs.declared.form.Form.TheVariants as form
+use Rattle.jasmin_lines.specs.declared.form.Form.{Form}
+use Rattle.jasmin_lines.specs.declared.form.Form.TheVariants as form
 
 abbrev pub labels_in : Form → List (List ℕ)
 labels_in (form.Label label) = label ∷ []

@@ -1,13 +1,4 @@
-pub mod Plain
-pub mod Said
 pub mod Faults
-pub mod Texts
-pub mod Lexemes
-pub mod Words
-pub mod Mnemonics
-pub mod Instructions
-pub mod Directives
-pub mod Forms
 pub mod Grammar
 pub mod Labels
 pub mod LabelsView

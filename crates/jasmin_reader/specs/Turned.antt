@@ -1,6 +1,6 @@
 -- Instructions whose last one came first, and so did the last label of each, in their own order.
 use Rattle.std.specs.Prelude.{List, map, reverse}
-use Rattle.jasmin_reader.specs.Plain.{PlainLineText}
+use Rattle.jasmin_lines.specs.Plain.{PlainLineText}
 
 abbrev pub turned_line : PlainLineText → PlainLineText
 turned_line l = record { line = l.line; labels = reverse l.labels; word = l.word; operands = l.operands }

@@ -1,12 +1,11 @@
 // Classes from the forms of lines, from the last one to the first: a label belongs to the instruction after it.
 ghost use Rattle.std.specs.Prelude.{◌≡◌, [], IfOk, OnOk};
 ghost use Rattle.jasmin_reader.specs.Assembly as spec;
-ghost use Rattle.jasmin_reader.specs.Directives.{empty_class};
+ghost use Rattle.jasmin_lines.specs.Directives.{empty_class};
 ghost use Rattle.jasmin_reader.specs.Turned.{turned_lines};
-ghost use Rattle.jasmin_reader.specs.declared.form.Form.TheVariants as form;
+ghost use Rattle.jasmin_lines.specs.declared.form.Form.TheVariants as form;
 
-use crate::class_text::{CatchText, ClassText, FieldText, LineText, MethodText, NameAt};
-use crate::form::Form;
+use jasmin_lines::{CatchText, ClassText, FieldText, Form, LineText, MethodText, NameAt};
 use std::alloc::Global;
 use std::marker::Model;
 use std::mem::replace;

@@ -1,15 +1,12 @@
 // Which line may follow which.
 ghost use Rattle.std.specs.Prelude.{◌≡◌, ◌∷◌, [], OnOk, bytes_eq, Ok, true, false};
 ghost use Rattle.std.specs.List.{list_any};
-ghost use Rattle.jasmin_reader.specs.Faults.{Gives};
+ghost use Rattle.jasmin_lines.specs.Faults.{Gives};
 ghost use Rattle.jasmin_reader.specs.Grammar as spec;
 ghost use Rattle.jasmin_reader.specs.Labels.{labels_in, are_new};
 
-use crate::fault::{FormError, ReadKind};
-use crate::form::{Form, form_of};
 use crate::labels::Labels;
-use crate::lexeme::{Lexeme, Line};
-use crate::words::is_word;
+use jasmin_lines::{Form, FormError, Lexeme, Line, ReadKind, form_of, is_word};
 use std::alloc::Global;
 use std::marker::Model;
 use vm_model::{Name, NoMemory};

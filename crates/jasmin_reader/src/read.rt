@@ -6,11 +6,9 @@ ghost use Rattle.jasmin_reader.specs.Grammar.{nothing_begun};
 ghost use Rattle.jasmin_reader.specs.Reading as spec;
 
 use crate::assembly::classes_of;
-use crate::class_text::ClassText;
-use crate::fault::{FormError, ReadFault, ReadKind};
-use crate::form::Form;
+use crate::fault::ReadFault;
 use crate::grammar::State;
-use crate::lexeme::{Line, lines_of};
+use jasmin_lines::{ClassText, Form, FormError, Line, ReadKind, lines_of};
 use jasmin_text::Token;
 use std::alloc::Global;
 

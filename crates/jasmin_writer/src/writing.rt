@@ -4,8 +4,8 @@ ghost use Rattle.std.specs.Fmt.{signed_decimal};
 ghost use Rattle.std.specs.List.{flat_map};
 ghost use Rattle.jasmin_writer.specs.Canonical as spec;
 
-use jasmin_reader::{CatchText, ClassText, FieldText, LineText, MethodText, NameAt, Operand};
 use itoa::Buffer;
+use jasmin_lines::{CatchText, ClassText, FieldText, LineText, MethodText, NameAt, Operand};
 use std::alloc::Global;
 use vm_model::{Name, NoMemory};
 

@@ -3,8 +3,8 @@ use Rattle.std.proofs.Common.{◌≡◌, ℕ, suc, ◌+◌, ◌<◌, Bool, true,
 use Rattle.std.specs.Prelude.{not, ◌||◌, ◌==◌, if◌then◌else◌, length, bytes_eq, is_some}
 use Rattle.std.specs.List.{list_any}
 use Rattle.std.proofs.lemmas.Bool.Decides.{nat_tests}
-use Rattle.class_linker.specs.Index.{Rows, value_of, with_row}
-use Rattle.class_linker.specs.Names.{next}
+use Rattle.name_resolver.specs.Index.{Rows, value_of, with_row}
+use Rattle.name_resolver.specs.Names.{next}
 use Rattle.class_linker.specs.Judging.{is_this}
 use Rattle.linking_laws.proofs.Numbered.{next_number}
 use Rattle.linking_laws.proofs.Members.{same_bytes, bytes_same}

@@ -4,15 +4,15 @@ use Rattle.std.specs.Prelude.{length, nat_le}
 use Rattle.std.specs.List.{AllByRecursion}
 use Rattle.vm_model.specs.declared.instr.Instr.{Instr}
 use Rattle.vm_model.specs.Program.{PlainMethod}
-use Rattle.jasmin_reader.specs.declared.class_text.CatchText.{CatchText}
-use Rattle.jasmin_reader.specs.Plain.{PlainClassText, PlainMethodText, PlainLineText}
-use Rattle.class_linker.specs.declared.fault.LinkKind.{LinkKind}
-use Rattle.class_linker.specs.declared.fault.LinkKind.TheVariants.{TooMany, OutOfProfile}
+use Rattle.jasmin_lines.specs.declared.class_text.CatchText.{CatchText}
+use Rattle.jasmin_lines.specs.Plain.{PlainClassText, PlainMethodText, PlainLineText}
+use Rattle.name_resolver.specs.declared.fault.LinkKind.{LinkKind}
+use Rattle.name_resolver.specs.declared.fault.LinkKind.TheVariants.{TooMany, OutOfProfile}
 use Rattle.class_linker.specs.declared.fault.Refusal.{Refusal}
-use Rattle.class_linker.specs.declared.names.Names.{Names}
+use Rattle.name_resolver.specs.declared.names.Names.{Names}
 use Rattle.class_linker.specs.Faults.{noted, only_if}
-use Rattle.class_linker.specs.Index.{Rows}
-use Rattle.class_linker.specs.Names.{next}
+use Rattle.name_resolver.specs.Index.{Rows}
+use Rattle.name_resolver.specs.Names.{next}
 use Rattle.class_linker.specs.Linked.{linked}
 use Rattle.class_linker.specs.Bodies.{labels_of, fault_in, line_judged, code_judged, catches_judged, body_judged, methods_judged, bodies_judged}
 use Rattle.class_linker.specs.Programs.{kept, code_of, methods_in, methods_of}

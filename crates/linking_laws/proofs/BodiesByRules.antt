@@ -3,16 +3,16 @@ use Rattle.std.proofs.Common.{◌≡◌, ℕ, ◌+◌, ◌≤◌, Bool, true, fa
 use Rattle.std.specs.Prelude.{if◌then◌else◌, nat_le, nat_lt, length, flat_map, bytes_eq, is_some, Contains}
 use Rattle.std.proofs.lemmas.Bool.Decides.{nat_tests}
 use Rattle.std.proofs.lemmas.List.Elements.{Contains-append_cases, Contains-append_right}
-use Rattle.jasmin_reader.specs.declared.class_text.CatchText.{CatchText}
-use Rattle.jasmin_reader.specs.declared.class_text.Operand.{Operand}
-use Rattle.jasmin_reader.specs.declared.class_text.Operand.TheVariants as operand
-use Rattle.jasmin_reader.specs.Plain.{PlainClassText, PlainMethodText, PlainLineText}
-use Rattle.class_linker.specs.declared.fault.LinkKind.{LinkKind}
-use Rattle.class_linker.specs.declared.fault.LinkKind.TheVariants as kinds
+use Rattle.jasmin_lines.specs.declared.class_text.CatchText.{CatchText}
+use Rattle.jasmin_lines.specs.declared.class_text.Operand.{Operand}
+use Rattle.jasmin_lines.specs.declared.class_text.Operand.TheVariants as operand
+use Rattle.jasmin_lines.specs.Plain.{PlainClassText, PlainMethodText, PlainLineText}
+use Rattle.name_resolver.specs.declared.fault.LinkKind.{LinkKind}
+use Rattle.name_resolver.specs.declared.fault.LinkKind.TheVariants as kinds
 use Rattle.class_linker.specs.declared.fault.Refusal.{Refusal}
 use Rattle.class_linker.specs.Faults.{only_if}
-use Rattle.class_linker.specs.Index.{value_of}
-use Rattle.class_linker.specs.Names.{next, names_of}
+use Rattle.name_resolver.specs.Index.{value_of}
+use Rattle.name_resolver.specs.Names.{next, names_of}
 use Rattle.class_linker.specs.Bodies.{PlainTexts, no_texts, added_text, with_text, with_operand, with_operands, with_lines, with_bodies, with_all, texts_of, labels_of, fault_in}
 use Rattle.class_linker.specs.Linked.{linked}
 use Rattle.shape_laws.proofs.Tests.{on_left, on_right, at_most}

@@ -7,13 +7,13 @@ use Rattle.std.proofs.lemmas.Bool.Decides.{nat_tests}
 use Rattle.std.proofs.lemmas.List.Elements.{Contains-append_left, Contains-append_cases}
 use Rattle.vm_model.specs.declared.instr.Instr.{Instr}
 use Rattle.vm_model.specs.declared.instr.Instr.TheVariants as instr
-use Rattle.jasmin_reader.specs.Plain.{PlainClassText}
-use Rattle.class_linker.specs.declared.calls.Target.{Target}
-use Rattle.class_linker.specs.Index.{Rows, value_of}
-use Rattle.class_linker.specs.Names.{is_thread, names_of}
-use Rattle.class_linker.specs.Descriptors.{or_user, class_of}
-use Rattle.class_linker.specs.BuiltIn.{has_lock, lock_member, thread_member, stream_member, constructor, first_some, of_lock, of_thread, of_stream, instance_member}
-use Rattle.class_linker.specs.Calls.{is_thread_class, static_member, is_run, virtual_run, virtual_member, special_member}
+use Rattle.jasmin_lines.specs.Plain.{PlainClassText}
+use Rattle.name_resolver.specs.declared.calls.Target.{Target}
+use Rattle.name_resolver.specs.Index.{Rows, value_of}
+use Rattle.name_resolver.specs.Names.{is_thread, names_of}
+use Rattle.name_resolver.specs.Descriptors.{or_user, class_of}
+use Rattle.name_resolver.specs.BuiltIn.{has_lock, lock_member, thread_member, stream_member, constructor, first_some, of_lock, of_thread, of_stream, instance_member}
+use Rattle.name_resolver.specs.Calls.{is_thread_class, static_member, is_run, virtual_run, virtual_member, special_member}
 use Rattle.built_in_classes.specs.Classes.{BuiltInClass, built_in_classes, built_in_number, number_from, has_objects, has_constructor, has_text_constructor, constructors_of, constructors_in, is_made, is_plain, takes_text}
 use Rattle.shape_laws.proofs.Tests.{both, joined, either, on_left, on_right}
 use Rattle.linking_laws.specs.BodyRules.{thread, IsThread, Itself, Extends, string, print_stream, throwables, plain_constructors, without_objects, HasBuiltIn, OfThreads, OfThread, OfObject, OfStream, Plain, OfRunnable, OfText}

@@ -2,11 +2,12 @@
 use Rattle.std.proofs.Common.{◌≡◌, ℕ, ◌<◌, ◌≤◌, Bool, true, false, List, [], ◌∷◌, refl, subst, arith}
 use Rattle.std.specs.Prelude.{◌≢◌, ◌↔◌, ◌||◌, ◌&&◌, ◌==◌, nat_lt, Contains}
 use Rattle.std.proofs.lemmas.Bool.Decides.{nat_tests}
-use Rattle.jasmin_reader.specs.Plain.{PlainClassText}
-use Rattle.class_linker.specs.declared.fault.LinkKind.{LinkKind}
-use Rattle.class_linker.specs.declared.fault.LinkKind.TheVariants as kinds
+use Rattle.jasmin_lines.specs.Plain.{PlainClassText}
+use Rattle.name_resolver.specs.declared.fault.LinkKind.{LinkKind}
+use Rattle.name_resolver.specs.declared.fault.LinkKind.TheVariants as kinds
 use Rattle.class_linker.specs.declared.fault.Refusal.{Refusal}
-use Rattle.class_linker.specs.Faults.{kind_number, is_before}
+use Rattle.name_resolver.specs.Faults.{kind_number}
+use Rattle.class_linker.specs.Faults.{is_before}
 use Rattle.linking_laws.specs.LinkFaults.{IsFirst, declaration_faults}
 use Rattle.linking_laws.specs.Named.{AreNamed}
 use Rattle.linking_laws.specs.FirstFault.{number_of, IsFirstOf}

@@ -5,15 +5,15 @@ use Rattle.std.specs.List.{list_any}
 use Rattle.std.proofs.lemmas.Bool.{false≢true}
 use Rattle.vm_model.specs.declared.instr.Instr.{Instr}
 use Rattle.vm_model.specs.declared.instr.Instr.TheVariants as instr
-use Rattle.jasmin_reader.specs.Plain.{PlainClassText, PlainMethodText}
-use Rattle.class_linker.specs.declared.calls.Target.{Target}
-use Rattle.class_linker.specs.declared.names.Names.{Names}
-use Rattle.class_linker.specs.Index.{Rows, value_of}
-use Rattle.class_linker.specs.Words.{split_at, method_key, field_word, field_key}
-use Rattle.class_linker.specs.Names.{is_static, names_of}
-use Rattle.class_linker.specs.BuiltIn.{instance_member, constructor, first_some}
-use Rattle.class_linker.specs.Descriptors.{class_of, by_class, is_unknown, method_signature, signature_of, in_signature}
-use Rattle.class_linker.specs.Calls.{static_member, static_call, is_run, virtual_run, virtual_member, virtual_call, special_member, special_call, call_by, target, class_part, name_part, desc_part, is_out, read_static, to_slot, field_by}
+use Rattle.jasmin_lines.specs.Plain.{PlainClassText, PlainMethodText}
+use Rattle.name_resolver.specs.declared.calls.Target.{Target}
+use Rattle.name_resolver.specs.declared.names.Names.{Names}
+use Rattle.name_resolver.specs.Index.{Rows, value_of}
+use Rattle.name_resolver.specs.Words.{split_at, method_key, field_word, field_key}
+use Rattle.name_resolver.specs.Names.{is_static, names_of}
+use Rattle.name_resolver.specs.BuiltIn.{instance_member, constructor, first_some}
+use Rattle.name_resolver.specs.Descriptors.{class_of, by_class, is_unknown, method_signature, signature_of, in_signature}
+use Rattle.name_resolver.specs.Calls.{static_member, static_call, is_run, virtual_run, virtual_member, virtual_call, special_member, special_call, call_by, target, class_part, name_part, desc_part, is_out, read_static, to_slot, field_by}
 use Rattle.shape_laws.proofs.Tests.{both, joined, same}
 use Rattle.linking_laws.specs.Types.{IsUnknownType, Says}
 use Rattle.linking_laws.specs.BodyRules.{HasMethod, HasField, HasBuiltIn, OfThreads, OfThread, OfObject, OfStream, Plain, OfRunnable, OfText, FindsMethod, Static, Virtual, Special, BuiltIn, IsOut, static_accesses, FindsField, StaticField, InstanceField, Out, calls, IsUnknown}

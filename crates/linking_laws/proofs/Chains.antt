@@ -3,9 +3,10 @@ use Rattle.std.proofs.Common.{◌≡◌, ℕ, zero, suc, ◌≤◌, Bool, true, 
 use Rattle.std.specs.Prelude.{Contains}
 use Rattle.std.proofs.lemmas.Bool.{false≢true}
 use Rattle.std.proofs.lemmas.List.Elements.{Contains-append_left, Contains-append_right}
-use Rattle.class_linker.specs.declared.fault.LinkKind.{LinkKind}
+use Rattle.name_resolver.specs.declared.fault.LinkKind.{LinkKind}
 use Rattle.class_linker.specs.declared.fault.Refusal.{Refusal}
-use Rattle.class_linker.specs.Faults.{kind_number, only_if}
+use Rattle.name_resolver.specs.Faults.{kind_number}
+use Rattle.class_linker.specs.Faults.{only_if}
 use Rattle.linking_laws.specs.LinkFaults.{of_line}
 
 -- a fault is found, of a kind that is at most this one

@@ -3,16 +3,16 @@ use Rattle.std.proofs.Common.{◌≡◌, ℕ, ◌+◌, ◌≤◌, Bool, true, fa
 use Rattle.std.specs.Prelude.{not, ◌||◌, ◌&&◌, if◌then◌else◌, nat_le, length, filter, codes, bytes_eq, is_some, Contains}
 use Rattle.std.specs.List.{list_any}
 use Rattle.std.proofs.lemmas.Bool.{false≢true}
-use Rattle.jasmin_reader.specs.declared.class_text.NameAt.{NameAt}
-use Rattle.jasmin_reader.specs.Plain.{PlainClassText}
-use Rattle.class_linker.specs.declared.fault.LinkKind.{LinkKind}
-use Rattle.class_linker.specs.declared.fault.LinkKind.TheVariants as kinds
-use Rattle.class_linker.specs.declared.names.Counts.{Counts}
-use Rattle.class_linker.specs.declared.names.Names.{Names}
+use Rattle.jasmin_lines.specs.declared.class_text.NameAt.{NameAt}
+use Rattle.jasmin_lines.specs.Plain.{PlainClassText}
+use Rattle.name_resolver.specs.declared.fault.LinkKind.{LinkKind}
+use Rattle.name_resolver.specs.declared.fault.LinkKind.TheVariants as kinds
+use Rattle.name_resolver.specs.declared.names.Counts.{Counts}
+use Rattle.name_resolver.specs.declared.names.Names.{Names}
 use Rattle.class_linker.specs.Faults.{only_if}
-use Rattle.class_linker.specs.Index.{value_of}
-use Rattle.class_linker.specs.Words.{has, has_foreign_flag}
-use Rattle.class_linker.specs.Names.{is_static}
+use Rattle.name_resolver.specs.Index.{value_of}
+use Rattle.name_resolver.specs.Words.{has, has_foreign_flag}
+use Rattle.name_resolver.specs.Names.{is_static}
 use Rattle.class_linker.specs.Judging.{is_this, named_fault, class_fault, is_super, super_fault, is_own_run, has_run, implements_fault}
 use Rattle.built_in_classes.specs.Classes.{built_in_number}
 use Rattle.shape_laws.proofs.Tests.{both, joined, either, on_left, on_right, at_most}

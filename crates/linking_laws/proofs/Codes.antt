@@ -7,22 +7,23 @@ use Rattle.std.proofs.lemmas.Bool.Decides.{nat_tests}
 use Rattle.vm_model.specs.declared.instr.Instr.{Instr}
 use Rattle.vm_model.specs.declared.instr.Instr.TheVariants as instr
 use Rattle.vm_model.specs.Program.{PlainProgram}
-use Rattle.jasmin_reader.specs.declared.class_text.Operand.{Operand}
-use Rattle.jasmin_reader.specs.declared.class_text.Operand.TheVariants as operand
-use Rattle.jasmin_reader.specs.Plain.{PlainLineText}
-use Rattle.class_linker.specs.declared.calls.Target.{Target}
-use Rattle.class_linker.specs.declared.fault.LinkKind.{LinkKind}
-use Rattle.class_linker.specs.declared.fault.LinkKind.TheVariants as kinds
-use Rattle.class_linker.specs.declared.names.Names.{Names}
-use Rattle.class_linker.specs.Index.{Rows, value_of}
-use Rattle.class_linker.specs.Lines.{◌>>=◌, or_fault}
+use Rattle.jasmin_lines.specs.declared.class_text.Operand.{Operand}
+use Rattle.jasmin_lines.specs.declared.class_text.Operand.TheVariants as operand
+use Rattle.jasmin_lines.specs.Plain.{PlainLineText}
+use Rattle.name_resolver.specs.declared.calls.Target.{Target}
+use Rattle.name_resolver.specs.declared.fault.LinkKind.{LinkKind}
+use Rattle.name_resolver.specs.declared.fault.LinkKind.TheVariants as kinds
+use Rattle.name_resolver.specs.declared.names.Names.{Names}
+use Rattle.name_resolver.specs.Index.{Rows, value_of}
+use Rattle.name_resolver.specs.Lines.{◌>>=◌, or_fault}
 use Rattle.built_in_classes.specs.Classes as built_in
 use Rattle.built_in_classes.specs.Classes.{has_constructor, has_text_constructor}
-use Rattle.class_linker.specs.Words.{field_key}
-use Rattle.class_linker.specs.BuiltIn.{has_lock, lock_member, thread_member, stream_member, constructor, first_some, of_lock, of_thread, of_stream, instance_member}
-use Rattle.class_linker.specs.Descriptors.{class_of}
-use Rattle.class_linker.specs.Calls.{static_call, virtual_run, virtual_member, virtual_call, special_member, special_call, call_by, target_of, call, read_static, to_slot, field_by, field_class, field, is_run, is_out}
-use Rattle.class_linker.specs.Linked.{row_of, alone, int_jump, pair_jump, other_jump, or_else, jump_to, numbered, texted, made, jumped, worded, is_call, linked_by, linked}
+use Rattle.name_resolver.specs.Words.{field_key}
+use Rattle.name_resolver.specs.BuiltIn.{has_lock, lock_member, thread_member, stream_member, constructor, first_some, of_lock, of_thread, of_stream, instance_member}
+use Rattle.name_resolver.specs.Descriptors.{class_of}
+use Rattle.name_resolver.specs.Calls.{static_call, virtual_run, virtual_member, virtual_call, special_member, special_call, call_by, target_of, call, read_static, to_slot, field_by, field_class, field, is_run, is_out}
+use Rattle.jasmin_lines.specs.Tables.{row_of}
+use Rattle.class_linker.specs.Linked.{alone, int_jump, pair_jump, other_jump, or_else, jump_to, numbered, texted, made, jumped, worded, is_call, linked_by, linked}
 use Rattle.class_linker.specs.Programs.{kept, code_of}
 use Rattle.machine_model.specs.Declarations.{declarations_of}
 use Rattle.machine_model.specs.Kinds.{is_class}

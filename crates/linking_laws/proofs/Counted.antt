@@ -5,16 +5,16 @@ use Rattle.std.specs.List.{AllByRecursion}
 use Rattle.vm_model.specs.Program.{PlainClass}
 use Rattle.vm_model.specs.declared.program.Field.{Field}
 use Rattle.vm_model.specs.declared.program.StaticSlot.{StaticSlot}
-use Rattle.jasmin_reader.specs.Plain.{PlainClassText, PlainFieldText, PlainMethodText}
-use Rattle.class_linker.specs.declared.descriptors.Typed.{Typed}
-use Rattle.class_linker.specs.declared.fault.LinkKind.TheVariants as kinds
+use Rattle.jasmin_lines.specs.Plain.{PlainClassText, PlainFieldText, PlainMethodText}
+use Rattle.name_resolver.specs.declared.descriptors.Typed.{Typed}
+use Rattle.name_resolver.specs.declared.fault.LinkKind.TheVariants as kinds
 use Rattle.class_linker.specs.declared.fault.Refusal.{Refusal}
-use Rattle.class_linker.specs.declared.names.Counts.{Counts}
-use Rattle.class_linker.specs.declared.names.Names.{Names}
-use Rattle.class_linker.specs.Index.{value_of}
-use Rattle.class_linker.specs.Words.{has_foreign_flag, field_word}
-use Rattle.class_linker.specs.Descriptors.{type_of, is_unknown, is_bad, is_outside}
-use Rattle.class_linker.specs.Names.{next, is_named, is_static, is_thread, class_begun, counted_if, field_counted, method_counted, with_class, with_fields, with_method, with_methods, with_whole}
+use Rattle.name_resolver.specs.declared.names.Counts.{Counts}
+use Rattle.name_resolver.specs.declared.names.Names.{Names}
+use Rattle.name_resolver.specs.Index.{value_of}
+use Rattle.name_resolver.specs.Words.{has_foreign_flag, field_word}
+use Rattle.name_resolver.specs.Descriptors.{type_of, is_unknown, is_bad, is_outside}
+use Rattle.name_resolver.specs.Names.{next, is_named, is_static, is_thread, class_begun, counted_if, field_counted, method_counted, with_class, with_fields, with_method, with_methods, with_whole}
 use Rattle.class_linker.specs.Judging.{is_this, has_strange_value, field_fault, is_full, taken, fields_judged, lines_judged, class_judged, classes_judged}
 use Rattle.class_linker.specs.Programs.{static_slot, field_kind, slots_in, slots_of, fields_of, linked_class}
 use Rattle.linking_laws.proofs.Judged.{noted_none, only_none, neither, not_false, fewer_than, this_one, fields_none, fields_count, methods_none, JudgedClasses, classes_first, behind_fields}

@@ -3,10 +3,10 @@ use Rattle.std.proofs.Common.{◌≡◌, ℕ, ◌+◌, ◌<◌, ◌≤◌, Bool,
 use Rattle.std.specs.Prelude.{not, if◌then◌else◌, length, map, filter, flat_map, bytes_eq}
 use Rattle.std.specs.List.{list_any}
 use Rattle.std.proofs.lemmas.List.{length-map}
-use Rattle.jasmin_reader.specs.Plain.{PlainClassText, PlainFieldText, PlainMethodText}
-use Rattle.class_linker.specs.declared.names.Counts.{Counts}
-use Rattle.class_linker.specs.Index.{Rows, value_of}
-use Rattle.class_linker.specs.Names.{next, is_static, is_thread, class_begun, counted_if, field_counted, method_counted}
+use Rattle.jasmin_lines.specs.Plain.{PlainClassText, PlainFieldText, PlainMethodText}
+use Rattle.name_resolver.specs.declared.names.Counts.{Counts}
+use Rattle.name_resolver.specs.Index.{Rows, value_of}
+use Rattle.name_resolver.specs.Names.{next, is_static, is_thread, class_begun, counted_if, field_counted, method_counted}
 use Rattle.class_linker.specs.Judging.{is_this, taken}
 use Rattle.linking_laws.specs.LinkFaults.{fields_counted, methods_counted, whole_counted}
 use Rattle.linking_laws.specs.Types.{is_class}

@@ -2,18 +2,18 @@
 use Rattle.std.proofs.Common.{◌≡◌, ℕ, Bool, true, false, List, [], ◌∷◌, ◌++◌, Option, Some, None, refl, sym, ap, ◌∙◌}
 use Rattle.std.specs.Prelude.{◌||◌, nat_le, flat_map, is_some}
 use Rattle.std.specs.List.{list_any}
-use Rattle.jasmin_reader.specs.declared.class_text.CatchText.{CatchText}
-use Rattle.jasmin_reader.specs.declared.class_text.NameAt.{NameAt}
-use Rattle.jasmin_reader.specs.Plain.{PlainClassText, PlainFieldText, PlainMethodText, PlainLineText}
-use Rattle.class_linker.specs.declared.fault.LinkKind.{LinkKind}
-use Rattle.class_linker.specs.declared.fault.LinkKind.TheVariants as kinds
+use Rattle.jasmin_lines.specs.declared.class_text.CatchText.{CatchText}
+use Rattle.jasmin_lines.specs.declared.class_text.NameAt.{NameAt}
+use Rattle.jasmin_lines.specs.Plain.{PlainClassText, PlainFieldText, PlainMethodText, PlainLineText}
+use Rattle.name_resolver.specs.declared.fault.LinkKind.{LinkKind}
+use Rattle.name_resolver.specs.declared.fault.LinkKind.TheVariants as kinds
 use Rattle.class_linker.specs.declared.fault.Refusal.{Refusal}
-use Rattle.class_linker.specs.declared.names.Counts.{Counts}
-use Rattle.class_linker.specs.declared.names.Names.{Names}
+use Rattle.name_resolver.specs.declared.names.Counts.{Counts}
+use Rattle.name_resolver.specs.declared.names.Names.{Names}
 use Rattle.class_linker.specs.Faults.{noted, only_if}
-use Rattle.class_linker.specs.Index.{Rows}
+use Rattle.name_resolver.specs.Index.{Rows}
 use Rattle.class_linker.specs.Linked.{linked}
-use Rattle.class_linker.specs.Names.{next, is_named, is_main, first_main, no_counts, no_names, class_begun, field_counted, method_counted, counted_if, with_class, with_field, with_method, with_fields, with_methods, with_whole, with_classes, names_of}
+use Rattle.name_resolver.specs.Names.{next, is_named, is_main, first_main, no_counts, no_names, class_begun, field_counted, method_counted, counted_if, with_class, with_field, with_method, with_fields, with_methods, with_whole, with_classes, names_of}
 use Rattle.class_linker.specs.Judging as judging
 use Rattle.class_linker.specs.Judging.{class_fault, super_fault, has_run, implements_fault, field_fault, is_full, taken, judged_method, implements_judged, fields_judged, lines_judged, class_judged, classes_judged}
 use Rattle.class_linker.specs.Bodies as bodies

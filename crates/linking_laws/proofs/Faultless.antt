@@ -2,12 +2,12 @@
 use Rattle.std.proofs.Common.{◌≡◌, ℕ, true, false, List, [], ap, ◌∙◌, ⊎_elim}
 use Rattle.std.specs.Prelude.{◌≢◌, ◌↔◌, ◌&&◌, codes, bytes_eq, Err, IsOk}
 use Rattle.std.specs.List.{list_any}
-use Rattle.jasmin_reader.specs.Plain.{PlainClassText}
-use Rattle.class_linker.specs.declared.fault.LinkKind.{LinkKind}
-use Rattle.class_linker.specs.declared.fault.LinkKind.TheVariants as kinds
+use Rattle.jasmin_lines.specs.Plain.{PlainClassText}
+use Rattle.name_resolver.specs.declared.fault.LinkKind.{LinkKind}
+use Rattle.name_resolver.specs.declared.fault.LinkKind.TheVariants as kinds
 use Rattle.class_linker.specs.declared.fault.Refusal.{Refusal}
-use Rattle.class_linker.specs.Words.{has}
-use Rattle.class_linker.specs.Names.{is_main}
+use Rattle.name_resolver.specs.Words.{has}
+use Rattle.name_resolver.specs.Names.{is_main}
 use Rattle.class_linker.specs.Linking.{linking}
 use Rattle.shape_laws.proofs.Tests.{both, joined}
 use Rattle.linking_laws.specs.LinkFaults.{declaration_faults, body_faults, has_main, no_main}

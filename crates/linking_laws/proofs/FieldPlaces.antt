@@ -2,11 +2,11 @@
 use Rattle.std.proofs.Common.{◌≡◌, ℕ, ◌+◌, ◌≤◌, Bool, true, false, List, [], ◌∷◌, ◌++◌, Option, Some, None, refl, sym, ap, ◌∙◌, arith, length-append}
 use Rattle.std.specs.Prelude.{not, ◌&&◌, ◌||◌, if◌then◌else◌, length, map, filter, is_some, bytes_eq}
 use Rattle.std.specs.List.{AllByRecursion, list_any, position_from}
-use Rattle.jasmin_reader.specs.Plain.{PlainClassText, PlainFieldText, PlainMethodText}
-use Rattle.class_linker.specs.declared.names.Counts.{Counts}
-use Rattle.class_linker.specs.declared.names.Names.{Names}
-use Rattle.class_linker.specs.Index.{Rows, value_of}
-use Rattle.class_linker.specs.Names.{next, is_named, is_static, is_thread, row_if, class_begun, counted_if, field_counted, method_counted, with_class, with_field, with_method, with_fields, with_methods, with_whole, with_classes}
+use Rattle.jasmin_lines.specs.Plain.{PlainClassText, PlainFieldText, PlainMethodText}
+use Rattle.name_resolver.specs.declared.names.Counts.{Counts}
+use Rattle.name_resolver.specs.declared.names.Names.{Names}
+use Rattle.name_resolver.specs.Index.{Rows, value_of}
+use Rattle.name_resolver.specs.Names.{next, is_named, is_static, is_thread, row_if, class_begun, counted_if, field_counted, method_counted, with_class, with_field, with_method, with_fields, with_methods, with_whole, with_classes}
 use Rattle.linking_laws.specs.Declared.{or_later, extends_thread, is_static_field, field_words, statics_declared, own_fields, place_in, object_field}
 use Rattle.linking_laws.proofs.Numbered.{next_number, behind_class}
 use Rattle.linking_laws.proofs.Places.{later_none, later_three, value_if, place_both, place_step}

@@ -3,17 +3,17 @@ use Rattle.std.proofs.Common.{◌≡◌, ℕ, ◌+◌, ◌≤◌, Bool, true, fa
 use Rattle.std.specs.Prelude.{◌≢◌, not, ◌||◌, ◌&&◌, if◌then◌else◌, nat_le, length, map, filter, flat_map, bytes_eq, is_some, ℤ}
 use Rattle.std.specs.List.{list_any}
 use Rattle.std.proofs.lemmas.Bool.{false≢true}
-use Rattle.jasmin_reader.specs.Plain.{PlainClassText, PlainFieldText}
-use Rattle.class_linker.specs.declared.descriptors.Typed.{Typed}
-use Rattle.class_linker.specs.declared.fault.LinkKind.{LinkKind}
-use Rattle.class_linker.specs.declared.fault.LinkKind.TheVariants as kinds
-use Rattle.class_linker.specs.declared.names.Counts.{Counts}
-use Rattle.class_linker.specs.declared.names.Names.{Names}
+use Rattle.jasmin_lines.specs.Plain.{PlainClassText, PlainFieldText}
+use Rattle.name_resolver.specs.declared.descriptors.Typed.{Typed}
+use Rattle.name_resolver.specs.declared.fault.LinkKind.{LinkKind}
+use Rattle.name_resolver.specs.declared.fault.LinkKind.TheVariants as kinds
+use Rattle.name_resolver.specs.declared.names.Counts.{Counts}
+use Rattle.name_resolver.specs.declared.names.Names.{Names}
 use Rattle.class_linker.specs.Faults.{only_if}
-use Rattle.class_linker.specs.Index.{value_of}
-use Rattle.class_linker.specs.Words.{has_foreign_flag, field_word}
-use Rattle.class_linker.specs.Names.{is_static}
-use Rattle.class_linker.specs.Descriptors.{type_of, is_unknown, is_bad, is_outside}
+use Rattle.name_resolver.specs.Index.{value_of}
+use Rattle.name_resolver.specs.Words.{has_foreign_flag, field_word}
+use Rattle.name_resolver.specs.Names.{is_static}
+use Rattle.name_resolver.specs.Descriptors.{type_of, is_unknown, is_bad, is_outside}
 use Rattle.class_linker.specs.Judging.{is_this, is_int, has_strange_value, field_fault, is_full, taken}
 use Rattle.shape_laws.proofs.Tests.{both, joined, either, on_left, on_right, at_most}
 use Rattle.linking_laws.specs.Rules.{field_name, field_names, FieldFault, FieldOfUnknown, SecondField, FieldMisspelled, ManyStatics, ManyFields, FieldFlag, FieldOfForeign, ValueNotStatic, ValueNotInt}

@@ -4,10 +4,11 @@ use Rattle.std.specs.Prelude.{◌≢◌, ◌&&◌, ◌||◌, ◌==◌, nat_lt, i
 use Rattle.std.specs.List.{AllByRecursion}
 use Rattle.std.proofs.lemmas.Bool.Decides.{nat_tests}
 use Rattle.std.proofs.lemmas.List.Elements.{All-from_recursion, All-contains}
-use Rattle.class_linker.specs.declared.fault.LinkKind.{LinkKind}
-use Rattle.class_linker.specs.declared.fault.LinkKind.TheVariants as kinds
+use Rattle.name_resolver.specs.declared.fault.LinkKind.{LinkKind}
+use Rattle.name_resolver.specs.declared.fault.LinkKind.TheVariants as kinds
 use Rattle.class_linker.specs.declared.fault.Refusal.{Refusal}
-use Rattle.class_linker.specs.Faults.{kind_number, is_before, first_of, noted}
+use Rattle.name_resolver.specs.Faults.{kind_number}
+use Rattle.class_linker.specs.Faults.{is_before, first_of, noted}
 use Rattle.linking_laws.specs.LinkFaults.{IsFirst, of_line}
 
 -- ---- the order of faults

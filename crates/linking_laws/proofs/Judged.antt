@@ -3,19 +3,19 @@ use Rattle.std.proofs.Common.{◌≡◌, ℕ, ◌<◌, ◌≤◌, Bool, true, fa
 use Rattle.std.specs.Prelude.{IfSome, is_some, not, ◌||◌, if◌then◌else◌, ◌==◌, nat_le, nat_lt, length}
 use Rattle.std.proofs.lemmas.Bool.{false≢true}
 use Rattle.std.proofs.lemmas.Bool.Decides.{nat_tests}
-use Rattle.jasmin_reader.specs.declared.class_text.NameAt.{NameAt}
-use Rattle.jasmin_reader.specs.Plain.{PlainClassText, PlainFieldText, PlainMethodText}
-use Rattle.class_linker.specs.declared.fault.LinkKind.{LinkKind}
-use Rattle.class_linker.specs.declared.fault.LinkKind.TheVariants as kinds
+use Rattle.jasmin_lines.specs.declared.class_text.NameAt.{NameAt}
+use Rattle.jasmin_lines.specs.Plain.{PlainClassText, PlainFieldText, PlainMethodText}
+use Rattle.name_resolver.specs.declared.fault.LinkKind.{LinkKind}
+use Rattle.name_resolver.specs.declared.fault.LinkKind.TheVariants as kinds
 use Rattle.class_linker.specs.declared.fault.Refusal.{Refusal}
-use Rattle.class_linker.specs.declared.names.Counts.{Counts}
-use Rattle.class_linker.specs.declared.names.Names.{Names}
+use Rattle.name_resolver.specs.declared.names.Counts.{Counts}
+use Rattle.name_resolver.specs.declared.names.Names.{Names}
 use Rattle.built_in_classes.specs.Classes.{built_in_number}
 use Rattle.class_linker.specs.Faults.{is_before, noted, only_if}
-use Rattle.class_linker.specs.Index.{value_of}
-use Rattle.class_linker.specs.Descriptors.{PlainSignature, method_signature, in_signature, is_unknown}
-use Rattle.class_linker.specs.Words.{method_key}
-use Rattle.class_linker.specs.Names.{is_named, class_begun, counted_if, field_counted, method_counted, with_field, with_fields, with_method, with_methods, with_class, with_whole}
+use Rattle.name_resolver.specs.Index.{value_of}
+use Rattle.name_resolver.specs.Descriptors.{PlainSignature, method_signature, in_signature, is_unknown}
+use Rattle.name_resolver.specs.Words.{method_key}
+use Rattle.name_resolver.specs.Names.{is_named, class_begun, counted_if, field_counted, method_counted, with_field, with_fields, with_method, with_methods, with_class, with_whole}
 use Rattle.class_linker.specs.Programs.{is_runnable}
 use Rattle.class_linker.specs.Judging.{is_this, named_fault, class_fault, super_fault, has_run, implements_fault, above, gives_wrong, has_too_many, implements_judged, field_fault, is_full, taken, fields_judged, judged_method, methods_judged, lines_judged, class_judged, classes_judged}
 

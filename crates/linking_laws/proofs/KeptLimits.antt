@@ -3,9 +3,9 @@ use Rattle.std.proofs.Common.{◌≡◌, ℕ, ◌≤◌, List, Ok, subst, arith}
 use Rattle.std.specs.Prelude.{length, map}
 use Rattle.std.proofs.lemmas.List.{length-map}
 use Rattle.vm_model.specs.Program.{PlainProgram}
-use Rattle.jasmin_reader.specs.Plain.{PlainClassText}
-use Rattle.class_linker.specs.declared.names.Names.{Names}
-use Rattle.class_linker.specs.Names.{names_of, no_counts, no_names}
+use Rattle.jasmin_lines.specs.Plain.{PlainClassText}
+use Rattle.name_resolver.specs.declared.names.Names.{Names}
+use Rattle.name_resolver.specs.Names.{names_of, no_counts, no_names}
 use Rattle.class_linker.specs.Bodies.{PlainTexts, texts_of}
 use Rattle.class_linker.specs.Programs.{linked_class, slots_of}
 use Rattle.class_linker.specs.Linking.{linking}

@@ -4,8 +4,8 @@ use Rattle.std.specs.Prelude.{not, length, ◌==◌, ◌||◌, codes, bytes_eq}
 use Rattle.std.specs.List.{list_all}
 use Rattle.std.proofs.lemmas.Bool.{false≢true}
 use Rattle.std.proofs.lemmas.Slice.Eq.{bytes_eq-Decides}
-use Rattle.jasmin_reader.specs.Words.{is_name_byte, is_class_byte, is_filled, is_name, is_class_name, is_method_name}
-use Rattle.class_linker.specs.Words.{method_key}
+use Rattle.jasmin_lines.specs.Words.{is_name_byte, is_class_byte, is_filled, is_name, is_class_name, is_method_name}
+use Rattle.name_resolver.specs.Words.{method_key}
 use Rattle.shape_laws.proofs.Tests.{both, either, same}
 
 -- a byte isn't among these

@@ -5,21 +5,22 @@ use Rattle.std.specs.List.{list_any}
 use Rattle.std.proofs.lemmas.Bool.{false≢true}
 use Rattle.vm_model.specs.declared.instr.Instr.{Instr}
 use Rattle.vm_model.specs.declared.instr.Instr.TheVariants as instr
-use Rattle.jasmin_reader.specs.declared.class_text.Operand.{Operand}
-use Rattle.jasmin_reader.specs.declared.class_text.Operand.TheVariants as operand
-use Rattle.jasmin_reader.specs.Plain.{PlainClassText, PlainMethodText, PlainLineText}
-use Rattle.jasmin_reader.specs.Mnemonics as mnemonics
-use Rattle.class_linker.specs.declared.fault.LinkKind.{LinkKind}
-use Rattle.class_linker.specs.declared.fault.LinkKind.TheVariants as kinds
-use Rattle.class_linker.specs.declared.names.Names.{Names}
-use Rattle.class_linker.specs.Index.{Rows, value_of}
-use Rattle.class_linker.specs.Words.{member}
-use Rattle.class_linker.specs.Names.{names_of}
-use Rattle.class_linker.specs.Lines.{◌>>=◌, or_fault}
+use Rattle.jasmin_lines.specs.declared.class_text.Operand.{Operand}
+use Rattle.jasmin_lines.specs.declared.class_text.Operand.TheVariants as operand
+use Rattle.jasmin_lines.specs.Plain.{PlainClassText, PlainMethodText, PlainLineText}
+use Rattle.jasmin_lines.specs.Mnemonics as mnemonics
+use Rattle.name_resolver.specs.declared.fault.LinkKind.{LinkKind}
+use Rattle.name_resolver.specs.declared.fault.LinkKind.TheVariants as kinds
+use Rattle.name_resolver.specs.declared.names.Names.{Names}
+use Rattle.name_resolver.specs.Index.{Rows, value_of}
+use Rattle.name_resolver.specs.Words.{member}
+use Rattle.name_resolver.specs.Names.{names_of}
+use Rattle.name_resolver.specs.Lines.{◌>>=◌, or_fault}
 use Rattle.class_linker.specs.Bodies.{fault_in, labels_of}
-use Rattle.class_linker.specs.Descriptors.{class_of, type_of, is_unknown, method_signature, in_signature}
-use Rattle.class_linker.specs.Calls.{target_of, call, call_by, class_part, name_part, desc_part, is_out, field, field_by}
-use Rattle.class_linker.specs.Linked.{row_of, alone, jump_to, texted, made, jumped, is_call, worded, linked_by, linked}
+use Rattle.name_resolver.specs.Descriptors.{class_of, type_of, is_unknown, method_signature, in_signature}
+use Rattle.name_resolver.specs.Calls.{target_of, call, call_by, class_part, name_part, desc_part, is_out, field, field_by}
+use Rattle.jasmin_lines.specs.Tables.{row_of}
+use Rattle.class_linker.specs.Linked.{alone, jump_to, texted, made, jumped, is_call, worded, linked_by, linked}
 use Rattle.built_in_classes.specs.Classes.{has_objects}
 use Rattle.shape_laws.proofs.Tests.{below_true, true_below}
 use Rattle.linking_laws.specs.Types.{IsUnknownType, Says}

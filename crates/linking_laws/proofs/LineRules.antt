@@ -6,18 +6,19 @@ use Rattle.std.proofs.lemmas.Bool.{false≢true}
 use Rattle.std.proofs.lemmas.List.Folds.{list_any-append}
 use Rattle.vm_model.specs.declared.instr.Instr.{Instr}
 use Rattle.vm_model.specs.declared.instr.Instr.TheVariants as instr
-use Rattle.jasmin_reader.specs.Plain.{PlainClassText, PlainMethodText, PlainLineText}
-use Rattle.jasmin_reader.specs.Mnemonics as mnemonics
-use Rattle.class_linker.specs.declared.calls.Target.{Target}
-use Rattle.class_linker.specs.declared.fault.LinkKind.{LinkKind}
-use Rattle.class_linker.specs.declared.fault.LinkKind.TheVariants as kinds
-use Rattle.class_linker.specs.Index.{value_of}
-use Rattle.class_linker.specs.Names.{names_of}
-use Rattle.class_linker.specs.Lines.{◌>>=◌, or_fault}
+use Rattle.jasmin_lines.specs.Plain.{PlainClassText, PlainMethodText, PlainLineText}
+use Rattle.jasmin_lines.specs.Mnemonics as mnemonics
+use Rattle.name_resolver.specs.declared.calls.Target.{Target}
+use Rattle.name_resolver.specs.declared.fault.LinkKind.{LinkKind}
+use Rattle.name_resolver.specs.declared.fault.LinkKind.TheVariants as kinds
+use Rattle.name_resolver.specs.Index.{value_of}
+use Rattle.name_resolver.specs.Names.{names_of}
+use Rattle.name_resolver.specs.Lines.{◌>>=◌, or_fault}
 use Rattle.class_linker.specs.Bodies.{fault_in, labels_of}
-use Rattle.class_linker.specs.Descriptors.{class_of}
-use Rattle.class_linker.specs.Calls.{known, class_or}
-use Rattle.class_linker.specs.Linked.{row_of, alone, int_jump, pair_jump, other_jump, or_else, jump_to, numbered}
+use Rattle.name_resolver.specs.Descriptors.{class_of}
+use Rattle.name_resolver.specs.Calls.{known, class_or}
+use Rattle.jasmin_lines.specs.Tables.{row_of}
+use Rattle.class_linker.specs.Linked.{alone, int_jump, pair_jump, other_jump, or_else, jump_to, numbered}
 use Rattle.shape_laws.proofs.Tests.{either, on_left, on_right}
 use Rattle.linking_laws.specs.BodyRules as rules
 use Rattle.linking_laws.specs.BodyRules.{FindsMethod, FindsField, IsOut, HasLabel, Before, AtEnd, calls, without_objects, AreOperands, Alone, OfNumber, OfConstant, OfWord, OfNumbers, OfWords, IsUnknown, LineFault, OtherOperands, NotAlone, NotNumbered, LongText, NewOfUnknown, NewWithout, CallOfUnknown, CallWithUnknown, CallOfNone, JumpNowhere, NoJump, AccessOfUnknown, AccessWithUnknown, AccessOfNone}

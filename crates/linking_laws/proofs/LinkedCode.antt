@@ -7,21 +7,22 @@ use Rattle.std.proofs.lemmas.Slice.Eq.{bytes_eq-Decides}
 use Rattle.vm_model.specs.declared.instr.Instr.{Instr}
 use Rattle.vm_model.specs.declared.instr.Instr.TheVariants as instr
 use Rattle.built_in_classes.specs.Classes.{has_objects, has_constructor, has_text_constructor}
-use Rattle.jasmin_reader.specs.declared.class_text.Operand.{Operand}
-use Rattle.jasmin_reader.specs.declared.class_text.Operand.TheVariants as operand
-use Rattle.jasmin_reader.specs.Plain.{PlainClassText, PlainLineText, PlainMethodText}
-use Rattle.class_linker.specs.declared.calls.Target.{Target}
-use Rattle.class_linker.specs.declared.fault.LinkKind.{LinkKind}
-use Rattle.class_linker.specs.declared.fault.LinkKind.TheVariants as kinds
-use Rattle.class_linker.specs.declared.names.Names.{Names}
-use Rattle.class_linker.specs.Index.{Rows, value_of}
-use Rattle.class_linker.specs.Words.{field_key, member}
-use Rattle.class_linker.specs.Lines.{◌>>=◌, or_fault}
-use Rattle.class_linker.specs.BuiltIn.{has_lock, first_some, of_lock, of_thread, of_stream, instance_member, constructor}
-use Rattle.class_linker.specs.Descriptors.{class_of, type_of, method_signature, in_signature, is_unknown}
-use Rattle.class_linker.specs.Calls.{is_thread_class, static_member, static_call, is_run, virtual_run, virtual_member, virtual_call, special_member, special_call, call_by, known, target, class_part, name_part, desc_part, target_of, call, is_out, read_static, to_slot, field_by, class_or, field_class, field}
+use Rattle.jasmin_lines.specs.declared.class_text.Operand.{Operand}
+use Rattle.jasmin_lines.specs.declared.class_text.Operand.TheVariants as operand
+use Rattle.jasmin_lines.specs.Plain.{PlainClassText, PlainLineText, PlainMethodText}
+use Rattle.name_resolver.specs.declared.calls.Target.{Target}
+use Rattle.name_resolver.specs.declared.fault.LinkKind.{LinkKind}
+use Rattle.name_resolver.specs.declared.fault.LinkKind.TheVariants as kinds
+use Rattle.name_resolver.specs.declared.names.Names.{Names}
+use Rattle.name_resolver.specs.Index.{Rows, value_of}
+use Rattle.name_resolver.specs.Words.{field_key, member}
+use Rattle.name_resolver.specs.Lines.{◌>>=◌, or_fault}
+use Rattle.name_resolver.specs.BuiltIn.{has_lock, first_some, of_lock, of_thread, of_stream, instance_member, constructor}
+use Rattle.name_resolver.specs.Descriptors.{class_of, type_of, method_signature, in_signature, is_unknown}
+use Rattle.name_resolver.specs.Calls.{is_thread_class, static_member, static_call, is_run, virtual_run, virtual_member, virtual_call, special_member, special_call, call_by, known, target, class_part, name_part, desc_part, target_of, call, is_out, read_static, to_slot, field_by, class_or, field_class, field}
 use Rattle.class_linker.specs.Linked as linker
-use Rattle.class_linker.specs.Linked.{row_of, or_else, int_jump, pair_jump, other_jump, jump_to, plain, numbered, texted, made, jumped, is_call, worded, linked_by, linked}
+use Rattle.jasmin_lines.specs.Tables.{row_of}
+use Rattle.class_linker.specs.Linked.{or_else, int_jump, pair_jump, other_jump, jump_to, plain, numbered, texted, made, jumped, is_call, worded, linked_by, linked}
 use Rattle.class_linker.specs.Programs.{kept, code_of}
 use Rattle.linking_laws.specs.Declared.{IsClass, is_thread_name, static_method, instance_method, static_field, object_field, label_place, text_place}
 use Rattle.linking_laws.specs.Instructions.{said_of, without_operands, with_number, jumps, instance_calls, static_accesses, field_accesses, lock_members, thread_members, stream_members}

@@ -8,17 +8,17 @@ use Rattle.vm_model.specs.declared.program.Field.{Field}
 use Rattle.vm_model.specs.declared.value.Kind.{Kind}
 use Rattle.vm_model.specs.declared.value.Kind.TheVariants as kind
 use Rattle.built_in_classes.specs.Classes.{built_in_number}
-use Rattle.jasmin_reader.specs.Plain.{PlainClassText, PlainFieldText, PlainMethodText}
-use Rattle.class_linker.specs.declared.descriptors.Typed.TheVariants as typed
-use Rattle.class_linker.specs.declared.fault.LinkKind.TheVariants as kinds
+use Rattle.jasmin_lines.specs.Plain.{PlainClassText, PlainFieldText, PlainMethodText}
+use Rattle.name_resolver.specs.declared.descriptors.Typed.TheVariants as typed
+use Rattle.name_resolver.specs.declared.fault.LinkKind.TheVariants as kinds
 use Rattle.class_linker.specs.declared.fault.Refusal.{Refusal}
-use Rattle.class_linker.specs.declared.names.Counts.{Counts}
-use Rattle.class_linker.specs.declared.names.Names.{Names}
-use Rattle.class_linker.specs.Index.{Rows, value_of}
-use Rattle.class_linker.specs.Words.{has_foreign_flag, method_key}
-use Rattle.class_linker.specs.Descriptors.{PlainSignature, or_user, class_of, type_of, method_signature, in_signature, is_unknown, is_bad, is_outside}
-use Rattle.class_linker.specs.Names.{next, is_named, is_static, class_begun, field_counted, method_counted, with_whole}
-use Rattle.class_linker.specs.Judging.{is_this, is_init, gives_wrong, has_too_many, is_foreign_method, is_reserved_method, fields_judged, judged_method, methods_judged, lines_judged, class_judged, classes_judged, taken}
+use Rattle.name_resolver.specs.declared.names.Counts.{Counts}
+use Rattle.name_resolver.specs.declared.names.Names.{Names}
+use Rattle.name_resolver.specs.Index.{Rows, value_of}
+use Rattle.name_resolver.specs.Words.{has_foreign_flag, method_key, is_init}
+use Rattle.name_resolver.specs.Descriptors.{PlainSignature, or_user, class_of, type_of, method_signature, in_signature, is_unknown, is_bad, is_outside}
+use Rattle.name_resolver.specs.Names.{next, is_named, is_static, class_begun, field_counted, method_counted, with_whole}
+use Rattle.class_linker.specs.Judging.{is_this, gives_wrong, has_too_many, is_foreign_method, is_reserved_method, fields_judged, judged_method, methods_judged, lines_judged, class_judged, classes_judged, taken}
 use Rattle.class_linker.specs.Bodies.{labels_of}
 use Rattle.class_linker.specs.Programs.{field_kind, start_of, static_slot, slots_in, slots_of, fields_of, linked_class, linked_method, methods_in, methods_of}
 use Rattle.linking_laws.specs.Named.{IsNamedMethod, AreNamed, IsWrittenLine, AreWritten}

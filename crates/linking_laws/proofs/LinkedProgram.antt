@@ -8,12 +8,12 @@ use Rattle.std.proofs.lemmas.Slice.Eq.{bytes_eq-Decides}
 use Rattle.vm_model.specs.Program.{PlainClass, PlainProgram}
 use Rattle.built_in_classes.specs.Classes.{BuiltInClass, built_in_classes, built_in_number, number_from}
 use Rattle.built_in_classes.specs.Classes as table
-use Rattle.jasmin_reader.specs.Plain.{PlainClassText, PlainFieldText, PlainLineText, PlainMethodText}
-use Rattle.jasmin_reader.specs.Words.{is_name, is_name_byte, is_class_byte, is_class_name, is_filled}
-use Rattle.class_linker.specs.declared.names.Names.{Names}
-use Rattle.class_linker.specs.Index.{Rows, value_of}
-use Rattle.class_linker.specs.Descriptors.{or_user, class_of}
-use Rattle.class_linker.specs.Names.{next, no_counts, no_names, names_of}
+use Rattle.jasmin_lines.specs.Plain.{PlainClassText, PlainFieldText, PlainLineText, PlainMethodText}
+use Rattle.jasmin_lines.specs.Words.{is_name, is_name_byte, is_class_byte, is_class_name, is_filled}
+use Rattle.name_resolver.specs.declared.names.Names.{Names}
+use Rattle.name_resolver.specs.Index.{Rows, value_of}
+use Rattle.name_resolver.specs.Descriptors.{or_user, class_of}
+use Rattle.name_resolver.specs.Names.{next, no_counts, no_names, names_of}
 use Rattle.class_linker.specs.Bodies.{PlainTexts, texts_of}
 use Rattle.class_linker.specs.Programs.{linked_class, methods_of}
 use Rattle.class_linker.specs.Linking.{linking}

@@ -4,11 +4,11 @@ use Rattle.std.specs.Prelude.{length}
 use Rattle.std.specs.List.{AllByRecursion}
 use Rattle.vm_model.specs.Program.{PlainMethod, PlainProgram, method_at}
 use Rattle.vm_model.specs.Plain.{IsWithinBounds}
-use Rattle.jasmin_reader.specs.Plain.{PlainClassText, PlainMethodText}
+use Rattle.jasmin_lines.specs.Plain.{PlainClassText, PlainMethodText}
 use Rattle.class_linker.specs.declared.fault.Refusal.{Refusal}
-use Rattle.class_linker.specs.declared.names.Names.{Names}
-use Rattle.class_linker.specs.Lines.{◌>>=◌}
-use Rattle.class_linker.specs.Names.{names_of, no_counts, no_names}
+use Rattle.name_resolver.specs.declared.names.Names.{Names}
+use Rattle.name_resolver.specs.Lines.{◌>>=◌}
+use Rattle.name_resolver.specs.Names.{names_of, no_counts, no_names}
 use Rattle.class_linker.specs.Judging.{classes_judged}
 use Rattle.class_linker.specs.Bodies.{PlainTexts, texts_of, bodies_judged}
 use Rattle.class_linker.specs.Programs.{methods_of, thread_method}

@@ -3,8 +3,9 @@ use Rattle.std.proofs.Common.{◌≡◌, ℕ, zero, suc, ◌+◌, ◌≤◌, Boo
 use Rattle.std.specs.Prelude.{not, ◌==◌, if◌then◌else◌, length, take, drop, nat_lt}
 use Rattle.std.specs.List.{list_all, position_or_len}
 use Rattle.std.proofs.lemmas.Bool.Decides.{nat_tests}
-use Rattle.class_linker.specs.Words.{split_at, described, slash_from, last_slash, parted, member}
-use Rattle.class_linker.specs.Calls.{class_part, name_part, desc_part}
+use Rattle.name_resolver.specs.Words.{split_at, described, parted, member}
+use Rattle.jasmin_lines.specs.Words.{slash_from, last_slash}
+use Rattle.name_resolver.specs.Calls.{class_part, name_part, desc_part}
 use Rattle.shape_laws.proofs.Tests.{same, joined}
 use Rattle.linking_laws.specs.Links.{IsMember, IsFieldOf, begins_with_bracket}
 use Rattle.linking_laws.proofs.Numbered.{none_some, some_same}

@@ -4,18 +4,18 @@ use Rattle.std.specs.Prelude.{not, ◌||◌, ◌&&◌, if◌then◌else◌, nat_
 use Rattle.std.specs.List.{list_any}
 use Rattle.std.proofs.lemmas.Bool.{false≢true}
 use Rattle.std.proofs.lemmas.List.Elements.{All-from_recursion, All-contains}
-use Rattle.jasmin_reader.specs.Plain.{PlainClassText, PlainMethodText}
-use Rattle.class_linker.specs.declared.fault.LinkKind.{LinkKind}
-use Rattle.class_linker.specs.declared.fault.LinkKind.TheVariants as kinds
-use Rattle.class_linker.specs.declared.names.Counts.{Counts}
-use Rattle.class_linker.specs.declared.names.Names.{Names}
-use Rattle.class_linker.specs.BuiltIn.{is_reserved}
+use Rattle.jasmin_lines.specs.Plain.{PlainClassText, PlainMethodText}
+use Rattle.name_resolver.specs.declared.fault.LinkKind.{LinkKind}
+use Rattle.name_resolver.specs.declared.fault.LinkKind.TheVariants as kinds
+use Rattle.name_resolver.specs.declared.names.Counts.{Counts}
+use Rattle.name_resolver.specs.declared.names.Names.{Names}
+use Rattle.name_resolver.specs.BuiltIn.{is_reserved}
 use Rattle.class_linker.specs.Faults.{only_if}
-use Rattle.class_linker.specs.Index.{Rows, value_of}
-use Rattle.class_linker.specs.Words.{has_foreign_flag, method_key}
-use Rattle.class_linker.specs.Names.{is_static}
-use Rattle.class_linker.specs.Descriptors.{PlainSignature, signature_of, method_signature, takes_args, args_signature, in_signature, is_unknown, is_bad, is_outside}
-use Rattle.class_linker.specs.Judging.{is_this, above, is_init, gives_wrong, has_too_many, is_reserved_method, is_foreign_method, judged_method}
+use Rattle.name_resolver.specs.Index.{Rows, value_of}
+use Rattle.name_resolver.specs.Words.{has_foreign_flag, method_key, is_init}
+use Rattle.name_resolver.specs.Names.{is_static}
+use Rattle.name_resolver.specs.Descriptors.{PlainSignature, signature_of, method_signature, takes_args, args_signature, in_signature, is_unknown, is_bad, is_outside}
+use Rattle.class_linker.specs.Judging.{is_this, above, gives_wrong, has_too_many, is_reserved_method, is_foreign_method, judged_method}
 use Rattle.shape_laws.proofs.Tests.{both, joined, either, on_left, on_right, at_most, below_true, true_below}
 use Rattle.linking_laws.specs.Types.{Takes, nothing, IsMethodType}
 use Rattle.linking_laws.specs.Rules.{method_name, method_names, IsMain, reserved_methods, MethodFault, MethodOfUnknown, SecondMethod, MethodMisspelled, ConstructorGives, ManyMethods, ManyParameters, GreatStack, GreatLocals, MethodFlag, MethodOfForeign, ClassInitialiser, StaticConstructor, Reserved}

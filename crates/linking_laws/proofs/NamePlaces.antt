@@ -3,13 +3,13 @@ use Rattle.std.proofs.Common.{◌≡◌, ℕ, ◌+◌, ◌≤◌, Bool, true, fa
 use Rattle.std.specs.Prelude.{not, ◌&&◌, if◌then◌else◌, length, map, bytes_eq}
 use Rattle.std.specs.List.{position_from}
 use Rattle.std.proofs.lemmas.List.{length-map}
-use Rattle.jasmin_reader.specs.Plain.{PlainClassText, PlainFieldText, PlainMethodText}
+use Rattle.jasmin_lines.specs.Plain.{PlainClassText, PlainFieldText, PlainMethodText}
 use Rattle.class_linker.specs.declared.fault.Refusal.{Refusal}
-use Rattle.class_linker.specs.declared.names.Counts.{Counts}
-use Rattle.class_linker.specs.declared.names.Names.{Names}
-use Rattle.class_linker.specs.Index.{Rows, value_of}
-use Rattle.class_linker.specs.Words.{method_key}
-use Rattle.class_linker.specs.Names.{next, is_named, is_static, row_if, is_main, first_main, class_begun, counted_if, field_counted, method_counted, with_class, with_field, with_method, with_fields, with_methods, with_whole, with_classes}
+use Rattle.name_resolver.specs.declared.names.Counts.{Counts}
+use Rattle.name_resolver.specs.declared.names.Names.{Names}
+use Rattle.name_resolver.specs.Index.{Rows, value_of}
+use Rattle.name_resolver.specs.Words.{method_key}
+use Rattle.name_resolver.specs.Names.{next, is_named, is_static, row_if, is_main, first_main, class_begun, counted_if, field_counted, method_counted, with_class, with_field, with_method, with_fields, with_methods, with_whole, with_classes}
 use Rattle.class_linker.specs.Judging.{class_judged, classes_judged}
 use Rattle.linking_laws.specs.Declared.{or_later, method_word, methods_declared, is_main_method}
 use Rattle.linking_laws.proofs.Judged.{JudgedClasses, classes_first}

@@ -4,10 +4,10 @@ use Rattle.std.specs.Prelude.{length, not, ◌&&◌, ◌==◌, is_some}
 use Rattle.std.specs.List.{AllByRecursion}
 use Rattle.std.proofs.lemmas.List.{length-map}
 use Rattle.vm_model.specs.Program.{PlainProgram, class_at}
-use Rattle.jasmin_reader.specs.Plain.{PlainClassText, PlainMethodText}
-use Rattle.class_linker.specs.declared.names.Names.{Names}
-use Rattle.class_linker.specs.Index.{Rows}
-use Rattle.class_linker.specs.Names.{next, is_static, names_of}
+use Rattle.jasmin_lines.specs.Plain.{PlainClassText, PlainMethodText}
+use Rattle.name_resolver.specs.declared.names.Names.{Names}
+use Rattle.name_resolver.specs.Index.{Rows}
+use Rattle.name_resolver.specs.Names.{next, is_static, names_of}
 use Rattle.class_linker.specs.Bodies.{PlainTexts, texts_of, labels_of}
 use Rattle.class_linker.specs.Programs.{linked_class, methods_in, methods_of, thread_method}
 use Rattle.class_linker.specs.Linking.{linking}

@@ -7,14 +7,14 @@ use Rattle.std.proofs.lemmas.List.{length-map}
 use Rattle.std.proofs.lemmas.Slice.Eq.{bytes_eq-Decides}
 use Rattle.vm_model.specs.declared.value.Kind.TheVariants as kind
 use Rattle.vm_model.specs.Program.{PlainMethod}
-use Rattle.jasmin_reader.specs.Plain.{PlainClassText, PlainFieldText, PlainMethodText}
+use Rattle.jasmin_lines.specs.Plain.{PlainClassText, PlainFieldText, PlainMethodText}
 use Rattle.class_linker.specs.declared.fault.Refusal.{Refusal}
-use Rattle.class_linker.specs.declared.names.Counts.{Counts}
-use Rattle.class_linker.specs.declared.names.Names.{Names}
-use Rattle.class_linker.specs.Index.{Rows, value_of}
-use Rattle.class_linker.specs.Words.{has, method_key}
-use Rattle.class_linker.specs.Descriptors.{PlainSignature, method_signature, takes_args, args_signature, kind_of, kind_given}
-use Rattle.class_linker.specs.Names.{next, is_named, is_static, row_if, is_main, first_main, class_begun, class_counted, counted_if, field_counted, method_counted, with_class, with_field, with_method, with_fields, with_methods, with_whole, with_classes}
+use Rattle.name_resolver.specs.declared.names.Counts.{Counts}
+use Rattle.name_resolver.specs.declared.names.Names.{Names}
+use Rattle.name_resolver.specs.Index.{Rows, value_of}
+use Rattle.name_resolver.specs.Words.{has, method_key}
+use Rattle.name_resolver.specs.Descriptors.{PlainSignature, method_signature, takes_args, args_signature, kind_of, kind_given}
+use Rattle.name_resolver.specs.Names.{next, is_named, is_static, row_if, is_main, first_main, class_begun, class_counted, counted_if, field_counted, method_counted, with_class, with_field, with_method, with_fields, with_methods, with_whole, with_classes}
 use Rattle.class_linker.specs.Judging.{methods_judged, class_judged, classes_judged}
 use Rattle.class_linker.specs.Programs.{linked_method, methods_in, methods_of}
 use Rattle.shape_laws.specs.Linked.{IsLinkedMain}

@@ -6,9 +6,9 @@ use Rattle.std.proofs.lemmas.Bool.{false≢true}
 use Rattle.std.proofs.lemmas.Slice.Eq.{bytes_eq-Decides}
 use Rattle.vm_model.specs.declared.instr.Instr.{Instr}
 use Rattle.vm_model.specs.declared.instr.Instr.TheVariants as instr
-use Rattle.jasmin_reader.specs.declared.class_text.Operand.{Operand}
-use Rattle.jasmin_reader.specs.declared.class_text.Operand.TheVariants as operand
-use Rattle.jasmin_reader.specs.Plain.{PlainClassText, PlainLineText, PlainMethodText}
+use Rattle.jasmin_lines.specs.declared.class_text.Operand.{Operand}
+use Rattle.jasmin_lines.specs.declared.class_text.Operand.TheVariants as operand
+use Rattle.jasmin_lines.specs.Plain.{PlainClassText, PlainLineText, PlainMethodText}
 use Rattle.shape_laws.proofs.Tests.{both, same}
 use Rattle.linking_laws.specs.Declared.{IsClass, static_field}
 use Rattle.linking_laws.specs.Instructions.{said_of, jumps, instance_calls, static_accesses, field_accesses, lock_members, thread_members, stream_members}

@@ -9,9 +9,9 @@ use Rattle.vm_model.specs.declared.program.StaticSlot.{StaticSlot}
 use Rattle.vm_model.specs.declared.value.Kind.{Kind}
 use Rattle.vm_model.specs.declared.value.Value.{Value}
 use Rattle.vm_model.specs.Program.{PlainClass, PlainMethod, PlainProgram}
-use Rattle.jasmin_reader.specs.Plain.{PlainClassText, PlainFieldText, PlainMethodText}
+use Rattle.jasmin_lines.specs.Plain.{PlainClassText, PlainFieldText, PlainMethodText}
 use Rattle.class_linker.specs.declared.fault.Refusal.{Refusal}
-use Rattle.class_linker.specs.Names.{is_main}
+use Rattle.name_resolver.specs.Names.{is_main}
 use Rattle.class_linker.specs.Linking.{linking}
 use Rattle.linking_laws.specs.Declared.{is_main_method, methods_declared, own_fields, statics_declared}
 use Rattle.linking_laws.specs.Links.{first_value, LinksField, LinksClass, LinksStatic, LinksLine, LinksMethod, run_of_thread, LinksMethods, Links}

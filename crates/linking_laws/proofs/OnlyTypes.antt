@@ -5,8 +5,8 @@ use Rattle.std.specs.List.{AllZip, list_all}
 use Rattle.std.proofs.lemmas.Bool.{false≢true}
 use Rattle.vm_model.specs.declared.value.Kind.{Kind}
 use Rattle.vm_model.specs.declared.value.Kind.TheVariants as kind
-use Rattle.jasmin_reader.specs.Plain.{PlainClassText, PlainMethodText}
-use Rattle.jasmin_reader.specs.Words.{is_class_byte, is_filled}
+use Rattle.jasmin_lines.specs.Plain.{PlainClassText, PlainMethodText}
+use Rattle.jasmin_lines.specs.Words.{is_class_byte, is_filled}
 use Rattle.shape_laws.proofs.Tests.{both}
 use Rattle.linking_laws.specs.Declared.{IsClass, BuiltIn, OfText}
 use Rattle.linking_laws.specs.Links.{Spells, SpellsResult, SpellsMethod, IsSignature, OfMain, Spelled}

@@ -7,24 +7,24 @@ use Rattle.std.proofs.lemmas.Slice.Eq.{bytes_eq-Decides}
 use Rattle.vm_model.specs.declared.instr.Instr.{Instr}
 use Rattle.vm_model.specs.declared.instr.Instr.TheVariants as instr
 use Rattle.built_in_classes.specs.Classes.{BuiltInClass, built_in_classes, built_in_number, number_from, constructors_in, is_made, has_objects}
-use Rattle.jasmin_reader.specs.declared.class_text.Operand.{Operand}
-use Rattle.jasmin_reader.specs.declared.class_text.Operand.TheVariants as operand
-use Rattle.jasmin_reader.specs.declared.mnemonic.Access.{Access}
-use Rattle.jasmin_reader.specs.declared.mnemonic.Access.TheVariants as access
-use Rattle.jasmin_reader.specs.declared.mnemonic.Mnemonic.{Mnemonic}
-use Rattle.jasmin_reader.specs.declared.mnemonic.Mnemonic.TheVariants as mnemonic
-use Rattle.jasmin_reader.specs.Mnemonics as words
-use Rattle.jasmin_reader.specs.Mnemonics.{table, mnemonic_of, out_of_profile}
-use Rattle.jasmin_reader.specs.Instructions.{access_word}
-use Rattle.class_linker.specs.declared.fault.LinkKind.{LinkKind}
-use Rattle.class_linker.specs.declared.fault.LinkKind.TheVariants as kinds
-use Rattle.class_linker.specs.declared.names.Names.{Names}
-use Rattle.class_linker.specs.Index.{Rows, value_of}
-use Rattle.class_linker.specs.Lines.{◌>>=◌, or_fault}
-use Rattle.class_linker.specs.Descriptors.{or_user, class_of, type_of, method_signature, in_signature, is_unknown}
-use Rattle.class_linker.specs.Calls.{known, target, class_part, name_part, desc_part, target_of, call_by, call, is_out, class_or, field_class, field_by, field}
+use Rattle.jasmin_lines.specs.declared.class_text.Operand.{Operand}
+use Rattle.jasmin_lines.specs.declared.class_text.Operand.TheVariants as operand
+use Rattle.jasmin_lines.specs.declared.mnemonic.Access.{Access}
+use Rattle.jasmin_lines.specs.declared.mnemonic.Access.TheVariants as access
+use Rattle.jasmin_lines.specs.declared.mnemonic.Mnemonic.{Mnemonic}
+use Rattle.jasmin_lines.specs.declared.mnemonic.Mnemonic.TheVariants as mnemonic
+use Rattle.jasmin_lines.specs.Mnemonics.{table, mnemonic_of, out_of_profile}
+use Rattle.jasmin_lines.specs.Instructions.{access_word}
+use Rattle.name_resolver.specs.declared.fault.LinkKind.{LinkKind}
+use Rattle.name_resolver.specs.declared.fault.LinkKind.TheVariants as kinds
+use Rattle.name_resolver.specs.declared.names.Names.{Names}
+use Rattle.name_resolver.specs.Index.{Rows, value_of}
+use Rattle.name_resolver.specs.Lines.{◌>>=◌, or_fault}
+use Rattle.name_resolver.specs.Descriptors.{or_user, class_of, type_of, method_signature, in_signature, is_unknown}
+use Rattle.name_resolver.specs.Calls.{known, target, class_part, name_part, desc_part, target_of, call_by, call, is_out, class_or, field_class, field_by, field}
 use Rattle.class_linker.specs.Linked as linker
-use Rattle.class_linker.specs.Linked.{row_of, jump_to, texted, made, jumped, is_call, linked_by}
+use Rattle.jasmin_lines.specs.Tables.{row_of}
+use Rattle.class_linker.specs.Linked.{jump_to, texted, made, jumped, is_call, linked_by}
 use Rattle.shape_laws.proofs.Tests.{both}
 use Rattle.linking_laws.specs.Declared.{is_among}
 use Rattle.linking_laws.specs.Instructions.{said_of, jumps}
@@ -100,14 +100,14 @@ unfolding table linker.alone jumps
 table_right to = refl
 
 -- the row that is found
-row_right : (P : List ℕ → Mnemonic → Bool) (word : List ℕ) (rows : List (List ℕ × Mnemonic)) (m : Mnemonic) → list_all (λ row. P row.0 row.1) rows ≡ true → words.row_of word rows ≡ Some m → P word m ≡ true
+row_right : (P : List ℕ → Mnemonic → Bool) (word : List ℕ) (rows : List (List ℕ × Mnemonic)) (m : Mnemonic) → list_all (λ row. P row.0 row.1) rows ≡ true → row_of word rows ≡ Some m → P word m ≡ true
 row_right P word [] m all e = absurd (none_some m e)
 row_right P word (row ∷ rows) m all e = by (bytes_eq row.0 word) refl e (row_right P word rows m parts.1)
   where
     parts : (P row.0 row.1 ≡ true) × (list_all (λ other. P other.0 other.1) rows ≡ true)
     parts = both (P row.0 row.1) (list_all (λ other. P other.0 other.1) rows) all
 
-    by : (b : Bool) → bytes_eq row.0 word ≡ b → (if b then Some row.1 else words.row_of word rows) ≡ Some m → (words.row_of word rows ≡ Some m → P word m ≡ true) → P word m ≡ true
+    by : (b : Bool) → bytes_eq row.0 word ≡ b → (if b then Some row.1 else row_of word rows) ≡ Some m → (row_of word rows ≡ Some m → P word m ≡ true) → P word m ≡ true
     by true is h more = subst (λ (k : Mnemonic). P word k ≡ true) (some_same row.1 m h) (subst (λ (w : List ℕ). P w row.1 ≡ true) ((bytes_eq-Decides row.0 word).0 is) parts.0)
     by false is h more = more h
 

@@ -5,9 +5,9 @@ use Rattle.std.specs.List.{list_any, position_from}
 use Rattle.std.proofs.lemmas.Bool.{false≢true}
 use Rattle.std.proofs.lemmas.List.{length-map}
 use Rattle.std.proofs.lemmas.Slice.Eq.{bytes_eq-Decides}
-use Rattle.jasmin_reader.specs.Plain.{PlainMethodText, PlainLineText}
-use Rattle.class_linker.specs.Index.{Rows, value_of, with_row}
-use Rattle.class_linker.specs.Names.{next, row_if}
+use Rattle.jasmin_lines.specs.Plain.{PlainMethodText, PlainLineText}
+use Rattle.name_resolver.specs.Index.{Rows, value_of, with_row}
+use Rattle.name_resolver.specs.Names.{next, row_if}
 use Rattle.class_linker.specs.Bodies.{with_labels, labelled, labels_of}
 use Rattle.linking_laws.specs.Declared.{or_later, label_place}
 use Rattle.linking_laws.proofs.Numbered.{next_number}

@@ -2,12 +2,12 @@
 use Rattle.std.proofs.Common.{◌≡◌, ℕ, Bool, true, false, List, [], ◌∷◌, Option, Some, None, refl, ap, ◌∙◌}
 use Rattle.std.specs.Prelude.{not, ◌||◌, ◌&&◌, if◌then◌else◌, bytes_eq, is_some}
 use Rattle.std.specs.List.{list_any}
-use Rattle.jasmin_reader.specs.Plain.{PlainClassText, PlainFieldText, PlainMethodText, PlainLineText}
-use Rattle.class_linker.specs.declared.names.Counts.{Counts}
-use Rattle.class_linker.specs.declared.names.Names.{Names}
-use Rattle.class_linker.specs.Index.{Rows, value_of, with_row}
-use Rattle.class_linker.specs.Words.{method_key, field_word, field_key}
-use Rattle.class_linker.specs.Names.{next, is_named, is_static, is_thread, row_if, no_counts, no_names, class_begun, counted_if, field_counted, method_counted, with_class, with_field, with_method, with_fields, with_methods, with_whole, with_classes, names_of}
+use Rattle.jasmin_lines.specs.Plain.{PlainClassText, PlainFieldText, PlainMethodText, PlainLineText}
+use Rattle.name_resolver.specs.declared.names.Counts.{Counts}
+use Rattle.name_resolver.specs.declared.names.Names.{Names}
+use Rattle.name_resolver.specs.Index.{Rows, value_of, with_row}
+use Rattle.name_resolver.specs.Words.{method_key, field_word, field_key}
+use Rattle.name_resolver.specs.Names.{next, is_named, is_static, is_thread, row_if, no_counts, no_names, class_begun, counted_if, field_counted, method_counted, with_class, with_field, with_method, with_fields, with_methods, with_whole, with_classes, names_of}
 use Rattle.class_linker.specs.Bodies.{with_labels, labelled, labels_of}
 use Rattle.linking_laws.proofs.Adding.{found_with, first_of}
 

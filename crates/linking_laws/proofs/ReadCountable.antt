@@ -12,17 +12,17 @@ use Rattle.jasmin_text.specs.Places.{along, next_line, first_place}
 use Rattle.jasmin_text.specs.Texts.{Spoiled, with_front, with_piece, token_at, line_end, left_of_line, tokens_after, tokens_of}
 use Rattle.jasmin_text.proofs.InOrder.{OfTokens}
 use Rattle.jasmin_text.proofs.Within.{chosen}
-use Rattle.jasmin_reader.specs.declared.fault.ReadKind.{ReadKind}
-use Rattle.jasmin_reader.specs.declared.fault.ReadKind.TheVariants.{NoSuper}
+use Rattle.jasmin_lines.specs.declared.fault.ReadKind.{ReadKind}
+use Rattle.jasmin_lines.specs.declared.fault.ReadKind.TheVariants.{NoSuper}
 use Rattle.jasmin_reader.specs.declared.fault.Refusal.{Refusal}
-use Rattle.jasmin_reader.specs.declared.form.Form.{Form}
-use Rattle.jasmin_reader.specs.declared.form.Form.TheVariants as form
-use Rattle.jasmin_reader.specs.declared.lexeme.Lexeme.{Lexeme}
+use Rattle.jasmin_lines.specs.declared.form.Form.{Form}
+use Rattle.jasmin_lines.specs.declared.form.Form.TheVariants as form
+use Rattle.jasmin_lines.specs.declared.lexeme.Lexeme.{Lexeme}
 use Rattle.jasmin_reader.specs.Assembly.{PlainParts, no_parts, with_form, parts_of, classes_of}
-use Rattle.jasmin_reader.specs.Faults.{◌>>=◌}
+use Rattle.jasmin_lines.specs.Faults.{◌>>=◌}
 use Rattle.jasmin_reader.specs.Grammar.{PlainState, nothing_begun, next_state, lacks_super, form_among}
-use Rattle.jasmin_reader.specs.Lexemes.{PlainLine, lexeme_of, filled, lines_after}
-use Rattle.jasmin_reader.specs.Plain.{PlainClassText}
+use Rattle.jasmin_lines.specs.Lexemes.{PlainLine, lexeme_of, filled, lines_after}
+use Rattle.jasmin_lines.specs.Plain.{PlainClassText}
 use Rattle.jasmin_reader.specs.Reading.{at_line, forms_after, last_line, reading}
 use Rattle.linking_laws.specs.Rules.{IsCountable}
 

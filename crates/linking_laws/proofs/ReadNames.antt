@@ -5,20 +5,20 @@ use Rattle.std.specs.List.{AllByRecursion, list_any, position_or_len}
 use Rattle.std.proofs.lemmas.Bool.{false≢true}
 use Rattle.jasmin_text.specs.declared.token.Token.{Token}
 use Rattle.jasmin_text.proofs.Skipping.{position-found}
-use Rattle.jasmin_reader.specs.declared.fault.ReadKind.{ReadKind}
-use Rattle.jasmin_reader.specs.declared.fault.ReadKind.TheVariants.{BadDirective, BadOperand, BadName, NoClass, NoSuper}
+use Rattle.jasmin_lines.specs.declared.fault.ReadKind.{ReadKind}
+use Rattle.jasmin_lines.specs.declared.fault.ReadKind.TheVariants.{BadDirective, BadOperand, BadName, NoClass, NoSuper}
 use Rattle.jasmin_reader.specs.declared.fault.Refusal.{Refusal}
-use Rattle.jasmin_reader.specs.declared.form.Form.{Form}
-use Rattle.jasmin_reader.specs.declared.form.Form.TheVariants as form
-use Rattle.jasmin_reader.specs.declared.lexeme.Lexeme.{Lexeme}
-use Rattle.jasmin_reader.specs.declared.lexeme.Lexeme.TheVariants as lexeme
-use Rattle.jasmin_reader.specs.Faults.{◌>>=◌}
-use Rattle.jasmin_reader.specs.Plain.{PlainClassText}
-use Rattle.jasmin_reader.specs.Lexemes.{PlainLine, lines_after}
-use Rattle.jasmin_reader.specs.Words.{two, number_of, is_word, name_of, word_of, named, is_class_name, is_method_name, is_name, class_name_of, split_at, described, one}
-use Rattle.jasmin_reader.specs.Instructions.{instruction}
-use Rattle.jasmin_reader.specs.Directives.{split_last, class_flags, field_flags, method_flags, source_form, class_form, name_at, field_of, valued, field_form, empty_method, method_form, limit_form, end_form, catch_of, catch_form, class_directive, method_directive, directive_form}
-use Rattle.jasmin_reader.specs.Forms.{unlabelled_form, labelled_form, label_of, coded, begins_with_dot, form_of}
+use Rattle.jasmin_lines.specs.declared.form.Form.{Form}
+use Rattle.jasmin_lines.specs.declared.form.Form.TheVariants as form
+use Rattle.jasmin_lines.specs.declared.lexeme.Lexeme.{Lexeme}
+use Rattle.jasmin_lines.specs.declared.lexeme.Lexeme.TheVariants as lexeme
+use Rattle.jasmin_lines.specs.Faults.{◌>>=◌}
+use Rattle.jasmin_lines.specs.Plain.{PlainClassText}
+use Rattle.jasmin_lines.specs.Lexemes.{PlainLine, lines_after}
+use Rattle.jasmin_lines.specs.Words.{two, number_of, is_word, name_of, word_of, named, is_class_name, is_method_name, is_name, class_name_of, split_at, described, one}
+use Rattle.jasmin_lines.specs.Instructions.{instruction}
+use Rattle.jasmin_lines.specs.Directives.{split_last, class_flags, field_flags, method_flags, source_form, class_form, name_at, field_of, valued, field_form, empty_method, method_form, limit_form, end_form, catch_of, catch_form, class_directive, method_directive, directive_form}
+use Rattle.jasmin_lines.specs.Forms.{unlabelled_form, labelled_form, label_of, coded, begins_with_dot, form_of}
 use Rattle.jasmin_reader.specs.Grammar.{PlainState, nothing_begun, next_state, lacks_super, is_end, may_stand_first, misplaced, placed, form_among}
 use Rattle.jasmin_reader.specs.Assembly.{PlainParts, no_parts, with_form, parts_of, classes_of}
 use Rattle.jasmin_reader.specs.Reading.{at_line, forms_after, last_line, reading}

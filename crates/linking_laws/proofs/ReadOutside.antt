@@ -1,22 +1,22 @@
 -- Which instructions that are read are out of the profile.
 use Rattle.std.proofs.Common.{◌≡◌, ℕ, Bool, true, false, List, [], ◌∷◌, Option, Some, None, Result, Ok, Err, refl, subst}
 use Rattle.std.specs.Prelude.{pos, negsuc, if◌then◌else◌, codes}
-use Rattle.jasmin_reader.specs.declared.class_text.Operand.TheVariants as operand
-use Rattle.jasmin_reader.specs.declared.fault.ReadKind.{ReadKind}
-use Rattle.jasmin_reader.specs.declared.fault.ReadKind.TheVariants.{BadMnemonic}
-use Rattle.jasmin_reader.specs.declared.lexeme.Lexeme.{Lexeme}
-use Rattle.jasmin_reader.specs.declared.lexeme.Lexeme.TheVariants as lexeme
-use Rattle.jasmin_reader.specs.declared.mnemonic.Mnemonic.{Mnemonic}
-use Rattle.jasmin_reader.specs.declared.mnemonic.Mnemonic.TheVariants as mnemonic
-use Rattle.jasmin_reader.specs.Faults.{◌>>=◌, or_fault}
-use Rattle.jasmin_reader.specs.Mnemonics.{mnemonic_of}
-use Rattle.jasmin_reader.specs.Plain.{PlainClassText}
-use Rattle.jasmin_reader.specs.Said.{PlainSaid}
-use Rattle.jasmin_reader.specs.Instructions.{constant_of, constant, push, local, increment, jump, field, call, class, is_int, said_by, instruction, alone, with_one}
-use Rattle.jasmin_reader.specs.Words.{none, one, two, word_of, number_of, name_of, class_name_of, named, is_name, is_method_name, is_member, described}
-use Rattle.class_linker.specs.declared.names.Names.{Names}
-use Rattle.class_linker.specs.Index.{Rows}
-use Rattle.class_linker.specs.Names.{names_of}
+use Rattle.jasmin_lines.specs.declared.class_text.Operand.TheVariants as operand
+use Rattle.jasmin_lines.specs.declared.fault.ReadKind.{ReadKind}
+use Rattle.jasmin_lines.specs.declared.fault.ReadKind.TheVariants.{BadMnemonic}
+use Rattle.jasmin_lines.specs.declared.lexeme.Lexeme.{Lexeme}
+use Rattle.jasmin_lines.specs.declared.lexeme.Lexeme.TheVariants as lexeme
+use Rattle.jasmin_lines.specs.declared.mnemonic.Mnemonic.{Mnemonic}
+use Rattle.jasmin_lines.specs.declared.mnemonic.Mnemonic.TheVariants as mnemonic
+use Rattle.jasmin_lines.specs.Faults.{◌>>=◌, or_fault}
+use Rattle.jasmin_lines.specs.Mnemonics.{mnemonic_of}
+use Rattle.jasmin_lines.specs.Plain.{PlainClassText}
+use Rattle.jasmin_lines.specs.Said.{PlainSaid}
+use Rattle.jasmin_lines.specs.Instructions.{constant_of, constant, push, local, increment, jump, field, call, class, is_int, said_by, instruction, alone, with_one}
+use Rattle.jasmin_lines.specs.Words.{none, one, two, word_of, number_of, name_of, class_name_of, named, is_name, is_method_name, is_member, described}
+use Rattle.name_resolver.specs.declared.names.Names.{Names}
+use Rattle.name_resolver.specs.Index.{Rows}
+use Rattle.name_resolver.specs.Names.{names_of}
 use Rattle.linking_laws.specs.Outside.{IsKnownText}
 use Rattle.linking_laws.proofs.OutOfProfile.{Says, AreUsers, alone_says, outside_says, push_says, local_says, increment_says, text_says, call_says, jump_says, ints_say, others_say, field_says, new_says}
 use Rattle.linking_laws.proofs.There.{names_within}

@@ -3,15 +3,15 @@ use Rattle.std.proofs.Common.{◌≡◌, ℕ, true, List, [], ◌∷◌, Result,
 use Rattle.std.specs.List.{AllByRecursion}
 use Rattle.jasmin_text.specs.declared.token.Token.{Token}
 use Rattle.jasmin_reader.specs.declared.fault.Refusal.{Refusal}
-use Rattle.jasmin_reader.specs.declared.form.Form.{Form}
-use Rattle.jasmin_reader.specs.declared.form.Form.TheVariants as form
+use Rattle.jasmin_lines.specs.declared.form.Form.{Form}
+use Rattle.jasmin_lines.specs.declared.form.Form.TheVariants as form
 use Rattle.jasmin_reader.specs.Assembly.{PlainParts, no_parts, labelled_lines, with_form, parts_of, classes_of}
-use Rattle.jasmin_reader.specs.Faults.{◌>>=◌}
+use Rattle.jasmin_lines.specs.Faults.{◌>>=◌}
 use Rattle.jasmin_reader.specs.Grammar.{nothing_begun}
-use Rattle.jasmin_reader.specs.Lexemes.{lines_after}
-use Rattle.jasmin_reader.specs.Plain.{PlainClassText, PlainFieldText, PlainLineText, PlainMethodText}
+use Rattle.jasmin_lines.specs.Lexemes.{lines_after}
+use Rattle.jasmin_lines.specs.Plain.{PlainClassText, PlainFieldText, PlainLineText, PlainMethodText}
 use Rattle.jasmin_reader.specs.Reading.{forms_after, last_line, reading}
-use Rattle.jasmin_reader.specs.Words.{is_name}
+use Rattle.jasmin_lines.specs.Words.{is_name}
 use Rattle.linking_laws.specs.Named.{IsWrittenLine, AreWritten}
 use Rattle.linking_laws.proofs.ReadNames.{GoodForm, GoodForms, forms_good}
 

@@ -4,12 +4,12 @@ use Rattle.std.specs.Prelude.{not, ◌&&◌, ◌||◌, if◌then◌else◌, byte
 use Rattle.std.specs.List.{list_any}
 use Rattle.std.proofs.lemmas.Bool.{false≢true}
 use Rattle.std.proofs.lemmas.Slice.Eq.{bytes_eq-Decides}
-use Rattle.jasmin_reader.specs.Plain.{PlainClassText, PlainFieldText, PlainMethodText}
-use Rattle.class_linker.specs.declared.names.Counts.{Counts}
-use Rattle.class_linker.specs.declared.names.Names.{Names}
-use Rattle.class_linker.specs.Index.{Rows, value_of}
-use Rattle.class_linker.specs.Words.{method_key}
-use Rattle.class_linker.specs.Names.{row_if, is_static, class_begun, field_counted, method_counted, with_class, with_field, with_method, with_fields, with_methods, with_whole, with_classes, counted_if, is_named}
+use Rattle.jasmin_lines.specs.Plain.{PlainClassText, PlainFieldText, PlainMethodText}
+use Rattle.name_resolver.specs.declared.names.Counts.{Counts}
+use Rattle.name_resolver.specs.declared.names.Names.{Names}
+use Rattle.name_resolver.specs.Index.{Rows, value_of}
+use Rattle.name_resolver.specs.Words.{method_key}
+use Rattle.name_resolver.specs.Names.{row_if, is_static, class_begun, field_counted, method_counted, with_class, with_field, with_method, with_fields, with_methods, with_whole, with_classes, counted_if, is_named}
 use Rattle.class_linker.specs.Judging.{is_own_run, has_run}
 use Rattle.shape_laws.proofs.Tests.{both}
 

@@ -4,10 +4,10 @@ use Rattle.std.specs.Prelude.{◌≢◌, ◌||◌, if◌then◌else◌, ◌==◌
 use Rattle.std.specs.List.{AllByRecursion, list_any}
 use Rattle.std.proofs.lemmas.Bool.{false≢true}
 use Rattle.std.proofs.lemmas.Bool.Decides.{nat_tests}
-use Rattle.class_linker.specs.declared.descriptors.Typed.{Typed}
-use Rattle.class_linker.specs.declared.descriptors.Typed.TheVariants as typed
-use Rattle.class_linker.specs.Index.{Rows}
-use Rattle.class_linker.specs.Descriptors.{PlainSignature, type_at, type_of, unless_bad, types_within, types_in, given, parts_at, parts_of, signature_of, is_bad, in_given, in_signature, is_unknown}
+use Rattle.name_resolver.specs.declared.descriptors.Typed.{Typed}
+use Rattle.name_resolver.specs.declared.descriptors.Typed.TheVariants as typed
+use Rattle.name_resolver.specs.Index.{Rows}
+use Rattle.name_resolver.specs.Descriptors.{PlainSignature, type_at, type_of, unless_bad, types_within, types_in, given, parts_at, parts_of, signature_of, is_bad, in_given, in_signature, is_unknown}
 use Rattle.shape_laws.proofs.Tests.{either, on_left, on_right, same}
 use Rattle.linking_laws.specs.Types.{class_type, IsType, Int, Other, Class, Array, IsParted, Says, OfParameter, OfResult, Takes, nothing, IsMethodType}
 use Rattle.linking_laws.proofs.Judged.{neither}

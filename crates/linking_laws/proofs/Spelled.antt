@@ -6,14 +6,14 @@ use Rattle.std.proofs.lemmas.Bool.{false≢true}
 use Rattle.std.proofs.lemmas.Bool.Decides.{nat_tests}
 use Rattle.std.proofs.lemmas.List.Elements.{All-from_recursion, All-contains}
 use Rattle.vm_model.specs.declared.value.Kind.TheVariants as kind
-use Rattle.jasmin_reader.specs.Plain.{PlainClassText}
-use Rattle.jasmin_reader.specs.Words.{is_class_name, is_class_byte, is_filled}
-use Rattle.class_linker.specs.declared.descriptors.Typed.{Typed}
-use Rattle.class_linker.specs.declared.descriptors.Typed.TheVariants as typed
-use Rattle.class_linker.specs.Index.{Rows, value_of}
+use Rattle.jasmin_lines.specs.Plain.{PlainClassText}
+use Rattle.jasmin_lines.specs.Words.{is_class_name, is_class_byte, is_filled}
+use Rattle.name_resolver.specs.declared.descriptors.Typed.{Typed}
+use Rattle.name_resolver.specs.declared.descriptors.Typed.TheVariants as typed
+use Rattle.name_resolver.specs.Index.{Rows, value_of}
 use Rattle.class_linker.specs.Judging.{is_int}
-use Rattle.class_linker.specs.Descriptors.{class_of, or_user, by_class, by_name, array_of, is_foreign, base_at, nested, dimensions, type_at, type_of, whole, is_bad, is_unknown, is_outside}
-use Rattle.class_linker.specs.Descriptors as descriptors
+use Rattle.name_resolver.specs.Descriptors.{class_of, or_user, by_class, by_name, array_of, is_foreign, base_at, nested, dimensions, type_at, type_of, whole, is_bad, is_unknown, is_outside}
+use Rattle.name_resolver.specs.Descriptors as descriptors
 use Rattle.built_in_classes.specs.Classes.{built_in_number}
 use Rattle.shape_laws.proofs.Tests.{both, either, same}
 use Rattle.linking_laws.specs.Types.{IsDeclared, IsBuiltIn, int_type, class_type, IsType, Int, Other, Class, Array, IsUnknownType, IsForeignType, Letter, ArrayOf}

@@ -7,12 +7,12 @@ use Rattle.std.proofs.lemmas.Bool.Decides.{nat_tests}
 use Rattle.std.proofs.lemmas.Slice.Eq.{bytes_eq-Decides}
 use Rattle.vm_model.specs.declared.value.Kind.{Kind}
 use Rattle.vm_model.specs.declared.value.Kind.TheVariants as kind
-use Rattle.jasmin_reader.specs.Plain.{PlainClassText, PlainMethodText}
-use Rattle.jasmin_reader.specs.Words.{is_class_name}
-use Rattle.class_linker.specs.declared.descriptors.Typed.{Typed}
-use Rattle.class_linker.specs.declared.descriptors.Typed.TheVariants as typed
-use Rattle.class_linker.specs.Index.{Rows}
-use Rattle.class_linker.specs.Descriptors.{class_of, by_class, by_name, class_type, array_of, is_foreign, base_at, dimensions, type_at, is_bad, unless_bad, types_within, whole, type_of, PlainSignature, given, parts_at, signature_of, args_signature, method_signature, is_unknown, is_outside, in_given, in_signature, kind_of, kind_given}
+use Rattle.jasmin_lines.specs.Plain.{PlainClassText, PlainMethodText}
+use Rattle.jasmin_lines.specs.Words.{is_class_name}
+use Rattle.name_resolver.specs.declared.descriptors.Typed.{Typed}
+use Rattle.name_resolver.specs.declared.descriptors.Typed.TheVariants as typed
+use Rattle.name_resolver.specs.Index.{Rows}
+use Rattle.name_resolver.specs.Descriptors.{class_of, by_class, by_name, class_type, array_of, is_foreign, base_at, dimensions, type_at, is_bad, unless_bad, types_within, whole, type_of, PlainSignature, given, parts_at, signature_of, args_signature, method_signature, is_unknown, is_outside, in_given, in_signature, kind_of, kind_given}
 use Rattle.shape_laws.proofs.Tests.{same}
 use Rattle.linking_laws.specs.Declared.{IsClass}
 use Rattle.linking_laws.specs.Links.{Spells, SpellsResult, SpellsMethod, takes_texts, IsSignature, OfMain, Spelled}

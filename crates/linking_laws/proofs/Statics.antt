@@ -6,9 +6,9 @@ use Rattle.vm_model.specs.declared.program.StaticSlot.{StaticSlot}
 use Rattle.vm_model.specs.declared.value.Kind.{Kind}
 use Rattle.vm_model.specs.declared.value.Kind.TheVariants as kind
 use Rattle.vm_model.specs.Program.{PlainProgram}
-use Rattle.jasmin_reader.specs.Plain.{PlainClassText, PlainFieldText}
-use Rattle.class_linker.specs.declared.names.Names.{Names}
-use Rattle.class_linker.specs.Names.{next, is_static}
+use Rattle.jasmin_lines.specs.Plain.{PlainClassText, PlainFieldText}
+use Rattle.name_resolver.specs.declared.names.Names.{Names}
+use Rattle.name_resolver.specs.Names.{next, is_static}
 use Rattle.class_linker.specs.Programs.{field_kind, start_of, static_slot, slots_in, slots_of}
 use Rattle.shape_laws.specs.Fitting.{is_of}
 use Rattle.shape_laws.proofs.Tests.{all_both}

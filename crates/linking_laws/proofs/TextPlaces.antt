@@ -4,11 +4,11 @@ use Rattle.std.specs.Prelude.{not, ◌&&◌, ◌||◌, if◌then◌else◌, leng
 use Rattle.std.specs.List.{list_any, position_from}
 use Rattle.std.proofs.lemmas.Bool.{false≢true}
 use Rattle.std.proofs.lemmas.Slice.Eq.{bytes_eq-Decides}
-use Rattle.jasmin_reader.specs.declared.class_text.Operand.{Operand}
-use Rattle.jasmin_reader.specs.declared.class_text.Operand.TheVariants as operand
-use Rattle.jasmin_reader.specs.Plain.{PlainClassText, PlainMethodText, PlainLineText}
-use Rattle.class_linker.specs.Index.{value_of}
-use Rattle.class_linker.specs.Names.{next}
+use Rattle.jasmin_lines.specs.declared.class_text.Operand.{Operand}
+use Rattle.jasmin_lines.specs.declared.class_text.Operand.TheVariants as operand
+use Rattle.jasmin_lines.specs.Plain.{PlainClassText, PlainMethodText, PlainLineText}
+use Rattle.name_resolver.specs.Index.{value_of}
+use Rattle.name_resolver.specs.Names.{next}
 use Rattle.class_linker.specs.Bodies.{PlainTexts, no_texts, added_text, with_text, with_operands, with_lines, with_bodies, with_all, texts_of}
 use Rattle.linking_laws.specs.Declared.{or_later, text_in, texts_used, each_once, text_place}
 use Rattle.linking_laws.proofs.Numbered.{next_number}

@@ -5,14 +5,14 @@ use Rattle.std.specs.List.{AllByRecursion}
 use Rattle.std.proofs.lemmas.Bool.Decides.{nat_tests}
 use Rattle.vm_model.specs.declared.value.Kind.{Kind}
 use Rattle.vm_model.specs.Program.{PlainClass, PlainMethod, PlainProgram, class_at}
-use Rattle.jasmin_reader.specs.Plain.{PlainClassText, PlainMethodText}
+use Rattle.jasmin_lines.specs.Plain.{PlainClassText, PlainMethodText}
 use Rattle.class_linker.specs.declared.fault.Refusal.{Refusal}
-use Rattle.class_linker.specs.declared.names.Counts.{Counts}
-use Rattle.class_linker.specs.declared.names.Names.{Names}
-use Rattle.class_linker.specs.Index.{Rows, value_of}
-use Rattle.class_linker.specs.Words.{method_key}
-use Rattle.class_linker.specs.Descriptors.{types_within, method_signature, kind_of, kind_given}
-use Rattle.class_linker.specs.Names.{next, names_of, no_counts, no_names, with_classes, with_whole}
+use Rattle.name_resolver.specs.declared.names.Counts.{Counts}
+use Rattle.name_resolver.specs.declared.names.Names.{Names}
+use Rattle.name_resolver.specs.Index.{Rows, value_of}
+use Rattle.name_resolver.specs.Words.{method_key}
+use Rattle.name_resolver.specs.Descriptors.{types_within, method_signature, kind_of, kind_given}
+use Rattle.name_resolver.specs.Names.{next, names_of, no_counts, no_names, with_classes, with_whole}
 use Rattle.class_linker.specs.Judging.{classes_judged, class_judged, has_run}
 use Rattle.class_linker.specs.Bodies.{PlainTexts, texts_of, labels_of}
 use Rattle.class_linker.specs.Programs.{linked_class, methods_in, methods_of, thread_method}

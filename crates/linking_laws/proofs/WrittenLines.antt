@@ -3,18 +3,19 @@ use Rattle.std.proofs.Common.{◌≡◌, ℕ, Bool, true, false, List, [], ◌�
 use Rattle.std.specs.Prelude.{pos, negsuc, not, ◌||◌, if◌then◌else◌, bytes_eq}
 use Rattle.std.specs.List.{list_all, list_any}
 use Rattle.std.proofs.lemmas.Slice.Eq.{bytes_eq-Decides}
-use Rattle.jasmin_reader.specs.declared.class_text.Operand.TheVariants as operand
-use Rattle.jasmin_reader.specs.declared.fault.ReadKind.{ReadKind}
-use Rattle.jasmin_reader.specs.declared.fault.ReadKind.TheVariants.{BadMnemonic}
-use Rattle.jasmin_reader.specs.declared.lexeme.Lexeme.{Lexeme}
-use Rattle.jasmin_reader.specs.declared.lexeme.Lexeme.TheVariants as lexeme
-use Rattle.jasmin_reader.specs.declared.mnemonic.Mnemonic.{Mnemonic}
-use Rattle.jasmin_reader.specs.declared.mnemonic.Mnemonic.TheVariants as mnemonic
-use Rattle.jasmin_reader.specs.Faults.{◌>>=◌, or_fault}
-use Rattle.jasmin_reader.specs.Mnemonics.{row_of, table, mnemonic_of}
-use Rattle.jasmin_reader.specs.Said.{PlainSaid}
-use Rattle.jasmin_reader.specs.Instructions.{constant_of, constant, push, local, increment, jump, field, call, class, is_int, said_by, instruction, alone, with_one}
-use Rattle.jasmin_reader.specs.Words.{none, one, two, word_of, number_of, name_of, class_name_of, named, is_name, is_method_name, is_member, described}
+use Rattle.jasmin_lines.specs.declared.class_text.Operand.TheVariants as operand
+use Rattle.jasmin_lines.specs.declared.fault.ReadKind.{ReadKind}
+use Rattle.jasmin_lines.specs.declared.fault.ReadKind.TheVariants.{BadMnemonic}
+use Rattle.jasmin_lines.specs.declared.lexeme.Lexeme.{Lexeme}
+use Rattle.jasmin_lines.specs.declared.lexeme.Lexeme.TheVariants as lexeme
+use Rattle.jasmin_lines.specs.declared.mnemonic.Mnemonic.{Mnemonic}
+use Rattle.jasmin_lines.specs.declared.mnemonic.Mnemonic.TheVariants as mnemonic
+use Rattle.jasmin_lines.specs.Faults.{◌>>=◌, or_fault}
+use Rattle.jasmin_lines.specs.Tables.{row_of}
+use Rattle.jasmin_lines.specs.Mnemonics.{table, mnemonic_of}
+use Rattle.jasmin_lines.specs.Said.{PlainSaid}
+use Rattle.jasmin_lines.specs.Instructions.{constant_of, constant, push, local, increment, jump, field, call, class, is_int, said_by, instruction, alone, with_one}
+use Rattle.jasmin_lines.specs.Words.{none, one, two, word_of, number_of, name_of, class_name_of, named, is_name, is_method_name, is_member, described}
 use Rattle.shape_laws.proofs.Tests.{both}
 use Rattle.linking_laws.specs.Named.{accesses, IsWrittenBy}
 

@@ -1,16 +1,16 @@
 -- Which faults the bodies of a text have: the rules, a case for each. They count where no declaration has a fault.
 use Rattle.std.specs.Prelude.{◌≡◌, ◌≢◌, ◌≤◌, ◌<◌, ℕ, Bool, true, false, ℤ, List, [], ◌∷◌, ◌++◌, length, codes, Contains}
 use Rattle.vm_model.specs.declared.limits.TheConstants.{MOST_INSTRUCTIONS, MOST_TEXT_CONSTANT_BYTES}
-use Rattle.jasmin_reader.specs.declared.class_text.CatchText.{CatchText}
-use Rattle.jasmin_reader.specs.declared.class_text.Operand.{Operand}
-use Rattle.jasmin_reader.specs.declared.class_text.Operand.TheVariants.{Number, Text, Word}
-use Rattle.jasmin_reader.specs.Plain.{PlainClassText, PlainFieldText, PlainMethodText, PlainLineText}
-use Rattle.jasmin_reader.specs.Mnemonics.{alone, jumps}
-use Rattle.class_linker.specs.declared.fault.LinkKind.{LinkKind}
-use Rattle.class_linker.specs.declared.fault.LinkKind.TheVariants.{UnknownClass, UnknownField, UnknownMethod, UnknownLabel, TooMany, OutOfProfile}
-use Rattle.class_linker.specs.Names.{is_static}
-use Rattle.class_linker.specs.Words.{member}
-use Rattle.class_linker.specs.Calls.{class_part, name_part, desc_part}
+use Rattle.jasmin_lines.specs.declared.class_text.CatchText.{CatchText}
+use Rattle.jasmin_lines.specs.declared.class_text.Operand.{Operand}
+use Rattle.jasmin_lines.specs.declared.class_text.Operand.TheVariants.{Number, Text, Word}
+use Rattle.jasmin_lines.specs.Plain.{PlainClassText, PlainFieldText, PlainMethodText, PlainLineText}
+use Rattle.jasmin_lines.specs.Mnemonics.{alone, jumps}
+use Rattle.name_resolver.specs.declared.fault.LinkKind.{LinkKind}
+use Rattle.name_resolver.specs.declared.fault.LinkKind.TheVariants.{UnknownClass, UnknownField, UnknownMethod, UnknownLabel, TooMany, OutOfProfile}
+use Rattle.name_resolver.specs.Names.{is_static}
+use Rattle.name_resolver.specs.Words.{member}
+use Rattle.name_resolver.specs.Calls.{class_part, name_part, desc_part}
 use Rattle.linking_laws.specs.Types.{IsDeclared, IsBuiltIn, IsUnknownType, Says}
 use Rattle.linking_laws.specs.Rules.{field_name, method_name}
 

@@ -1,8 +1,8 @@
 -- Which of the faults of a text counts: first those of declarations, then those of bodies, and last that there is no main.
 use Rattle.std.specs.Prelude.{◌≡◌, ◌≤◌, ℕ, List, codes, Contains}
-use Rattle.jasmin_reader.specs.Plain.{PlainClassText, PlainMethodText}
-use Rattle.class_linker.specs.declared.fault.LinkKind.{LinkKind}
-use Rattle.class_linker.specs.declared.fault.LinkKind.TheVariants.{NoMain, UnknownClass, UnknownField, UnknownMethod, UnknownLabel, Twice, BadDescriptor, TooMany, OutOfProfile}
+use Rattle.jasmin_lines.specs.Plain.{PlainClassText, PlainMethodText}
+use Rattle.name_resolver.specs.declared.fault.LinkKind.{LinkKind}
+use Rattle.name_resolver.specs.declared.fault.LinkKind.TheVariants.{NoMain, UnknownClass, UnknownField, UnknownMethod, UnknownLabel, Twice, BadDescriptor, TooMany, OutOfProfile}
 use Rattle.class_linker.specs.declared.fault.Refusal.{Refusal}
 use Rattle.linking_laws.specs.Rules.{IsMain, HasDeclarationFault}
 use Rattle.linking_laws.specs.BodyRules.{HasBodyFault}

@@ -3,17 +3,17 @@
 use Rattle.std.specs.Prelude.{◌≡◌, ℕ, Bool, false, nat_le, List, [], ◌∷◌, ◌++◌, map, fold, flat_map, Contains, Option, Some, None}
 use Rattle.std.specs.List.{list_any}
 use Rattle.vm_model.specs.declared.limits.TheConstants.{MOST_INSTRUCTIONS}
-use Rattle.jasmin_reader.specs.declared.class_text.CatchText.{CatchText}
-use Rattle.jasmin_reader.specs.declared.class_text.NameAt.{NameAt}
-use Rattle.jasmin_reader.specs.Plain.{PlainClassText, PlainFieldText, PlainMethodText, PlainLineText}
-use Rattle.class_linker.specs.declared.fault.LinkKind.{LinkKind}
-use Rattle.class_linker.specs.declared.fault.LinkKind.TheVariants.{NoMain, TooMany, OutOfProfile}
+use Rattle.jasmin_lines.specs.declared.class_text.CatchText.{CatchText}
+use Rattle.jasmin_lines.specs.declared.class_text.NameAt.{NameAt}
+use Rattle.jasmin_lines.specs.Plain.{PlainClassText, PlainFieldText, PlainMethodText, PlainLineText}
+use Rattle.name_resolver.specs.declared.fault.LinkKind.{LinkKind}
+use Rattle.name_resolver.specs.declared.fault.LinkKind.TheVariants.{NoMain, TooMany, OutOfProfile}
 use Rattle.class_linker.specs.declared.fault.Refusal.{Refusal}
-use Rattle.class_linker.specs.declared.names.Counts.{Counts}
-use Rattle.class_linker.specs.declared.names.Names.{Names}
+use Rattle.name_resolver.specs.declared.names.Counts.{Counts}
+use Rattle.name_resolver.specs.declared.names.Names.{Names}
 use Rattle.class_linker.specs.Faults.{is_before, only_if}
-use Rattle.class_linker.specs.Index.{Rows}
-use Rattle.class_linker.specs.Names.{next, no_counts, names_of, is_named, is_main, class_begun, field_counted, method_counted, counted_if}
+use Rattle.name_resolver.specs.Index.{Rows}
+use Rattle.name_resolver.specs.Names.{next, no_counts, names_of, is_named, is_main, class_begun, field_counted, method_counted, counted_if}
 use Rattle.class_linker.specs.Linked.{linked}
 use Rattle.class_linker.specs.Judging.{class_fault, super_fault, has_run, implements_fault, field_fault, is_full, taken, judged_method}
 use Rattle.class_linker.specs.Bodies.{texts_of, labels_of, fault_in}

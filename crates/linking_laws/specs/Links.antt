@@ -12,10 +12,10 @@ use Rattle.vm_model.specs.declared.value.Value.TheVariants as value
 use Rattle.vm_model.specs.Program.{PlainClass, PlainMethod, PlainProgram}
 use Rattle.built_in_classes.specs.declared.numbers.TheConstants.{PRINT_STREAM, RUNNABLE, STRING, THREAD}
 use Rattle.built_in_classes.specs.Classes.{has_constructor, has_text_constructor}
-use Rattle.jasmin_reader.specs.declared.class_text.Operand.{Operand}
-use Rattle.jasmin_reader.specs.declared.class_text.Operand.TheVariants as operand
-use Rattle.jasmin_reader.specs.Plain.{PlainClassText, PlainFieldText, PlainLineText, PlainMethodText}
-use Rattle.jasmin_reader.specs.Words.{is_class_name}
+use Rattle.jasmin_lines.specs.declared.class_text.Operand.{Operand}
+use Rattle.jasmin_lines.specs.declared.class_text.Operand.TheVariants as operand
+use Rattle.jasmin_lines.specs.Plain.{PlainClassText, PlainFieldText, PlainLineText, PlainMethodText}
+use Rattle.jasmin_lines.specs.Words.{is_class_name}
 use Rattle.linking_laws.specs.Declared.{IsClass, is_among, extends_thread, is_thread_name, methods_declared, static_method, instance_method, is_static_method, is_main_method, own_fields, statics_declared, static_field, object_field, label_place, texts_used, each_once, text_place}
 use Rattle.linking_laws.specs.Instructions.{said_of, without_operands, with_number, jumps, instance_calls, static_accesses, field_accesses, lock_members, thread_members, stream_members}
 

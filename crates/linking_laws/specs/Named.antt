@@ -1,10 +1,10 @@
 -- Names as the reader lets them through. With a slash in it a method's name could stand for the run of another class.
 use Rattle.std.specs.Prelude.{◌≡◌, ℕ, true, ◌||◌, ◌==◌, List, [], ◌∷◌, length, codes, bytes_eq}
 use Rattle.std.specs.List.{AllByRecursion, list_any}
-use Rattle.jasmin_reader.specs.declared.class_text.Operand.{Operand}
-use Rattle.jasmin_reader.specs.declared.class_text.Operand.TheVariants as operand
-use Rattle.jasmin_reader.specs.Plain.{PlainClassText, PlainFieldText, PlainLineText, PlainMethodText}
-use Rattle.jasmin_reader.specs.Words.{is_class_name, is_method_name, is_name}
+use Rattle.jasmin_lines.specs.declared.class_text.Operand.{Operand}
+use Rattle.jasmin_lines.specs.declared.class_text.Operand.TheVariants as operand
+use Rattle.jasmin_lines.specs.Plain.{PlainClassText, PlainFieldText, PlainLineText, PlainMethodText}
+use Rattle.jasmin_lines.specs.Words.{is_class_name, is_method_name, is_name}
 
 -- a method's name has the form of one, and its descriptor begins with a bracket
 pub record IsNamedMethod (m : PlainMethodText) : Type 0 where

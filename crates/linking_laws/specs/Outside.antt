@@ -1,9 +1,9 @@
 -- Which lines are out of the profile.
 use Rattle.std.specs.Prelude.{◌≡◌, ℕ, Bool, true, false, is_some, ◌&&◌, List, [], ◌∷◌, codes, bytes_eq}
-use Rattle.jasmin_reader.specs.declared.class_text.Operand.{Operand}
-use Rattle.jasmin_reader.specs.declared.class_text.Operand.TheVariants as operand
-use Rattle.jasmin_reader.specs.Mnemonics.{out_of_profile}
-use Rattle.class_linker.specs.Index.{Rows, value_of}
+use Rattle.jasmin_lines.specs.declared.class_text.Operand.{Operand}
+use Rattle.jasmin_lines.specs.declared.class_text.Operand.TheVariants as operand
+use Rattle.jasmin_lines.specs.Mnemonics.{out_of_profile}
+use Rattle.name_resolver.specs.Index.{Rows, value_of}
 use Rattle.linking_laws.specs.Declared.{is_among}
 
 -- the classes of which no object is made

@@ -1,11 +1,11 @@
 -- Which faults the declarations of a text have: the rules, a case for each. A line may have several.
 use Rattle.std.specs.Prelude.{◌≡◌, ◌≢◌, ◌≤◌, ◌<◌, ◌+◌, ℕ, true, false, not, List, [], ◌∷◌, ◌++◌, length, map, filter, flat_map, codes, Contains, Some, None}
 use Rattle.vm_model.specs.declared.limits.TheConstants.{MOST_CLASSES, MOST_FIELDS, MOST_LOCALS, MOST_METHODS, MOST_OPERANDS, MOST_PARAMETERS, MOST_STATICS}
-use Rattle.jasmin_reader.specs.declared.class_text.NameAt.{NameAt}
-use Rattle.jasmin_reader.specs.Plain.{PlainClassText, PlainFieldText, PlainMethodText}
-use Rattle.class_linker.specs.declared.fault.LinkKind.{LinkKind}
-use Rattle.class_linker.specs.declared.fault.LinkKind.TheVariants.{UnknownClass, UnknownMethod, Twice, BadDescriptor, TooMany, OutOfProfile}
-use Rattle.class_linker.specs.Names.{is_static}
+use Rattle.jasmin_lines.specs.declared.class_text.NameAt.{NameAt}
+use Rattle.jasmin_lines.specs.Plain.{PlainClassText, PlainFieldText, PlainMethodText}
+use Rattle.name_resolver.specs.declared.fault.LinkKind.{LinkKind}
+use Rattle.name_resolver.specs.declared.fault.LinkKind.TheVariants.{UnknownClass, UnknownMethod, Twice, BadDescriptor, TooMany, OutOfProfile}
+use Rattle.name_resolver.specs.Names.{is_static}
 use Rattle.linking_laws.specs.Types.{is_class, IsDeclared, IsBuiltIn, int_type, IsType, IsUnknownType, IsForeignType, IsParted, Says, Takes, nothing, IsMethodType}
 
 -- ---- words

@@ -2,8 +2,8 @@
 use Rattle.std.specs.Prelude.{◌≡◌, ◌≢◌, ◌⊎◌, ℕ, Bool, true, not, ◌==◌, List, [], ◌∷◌, ◌++◌, length, flat_map, codes, Contains}
 use Rattle.std.specs.List.{AllByRecursion}
 use Rattle.built_in_classes.specs.Classes.{built_in_classes, names_of}
-use Rattle.jasmin_reader.specs.Plain.{PlainClassText}
-use Rattle.jasmin_reader.specs.Words.{is_class_name}
+use Rattle.jasmin_lines.specs.Plain.{PlainClassText}
+use Rattle.jasmin_lines.specs.Words.{is_class_name}
 
 -- ---- classes
 

@@ -1,10 +1,10 @@
 -- A form that is read again from its own words.
 use Rattle.std.specs.Prelude.{◌≡◌, ℕ, false, nat_eq, List, [], ◌∷◌, length, Ok}
 use Rattle.std.specs.List.{AllByRecursion}
-use Rattle.jasmin_reader.specs.declared.form.Form.{Form}
-use Rattle.jasmin_reader.specs.declared.form.Form.TheVariants as form
-use Rattle.jasmin_reader.specs.Directives.{empty_class, empty_method}
-use Rattle.jasmin_reader.specs.Forms.{form_of}
+use Rattle.jasmin_lines.specs.declared.form.Form.{Form}
+use Rattle.jasmin_lines.specs.declared.form.Form.TheVariants as form
+use Rattle.jasmin_lines.specs.Directives.{empty_class, empty_method}
+use Rattle.jasmin_lines.specs.Forms.{form_of}
 use Rattle.text_laws.specs.Spelled.{IsSpellableLine}
 use Rattle.text_laws.proofs.CanonicalForms.{words_of, unlabelled}
 

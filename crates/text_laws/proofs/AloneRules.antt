@@ -3,19 +3,19 @@ use Rattle.std.proofs.Common.{◌≡◌, ◌≢◌, ℕ, ◌-◌, ◌≤◌, Boo
 use Rattle.std.specs.Prelude.{◌↔◌, Contains, slice_index}
 use Rattle.std.proofs.lemmas.List.{length-append}
 use Rattle.std.proofs.Math.Seq.{take-append_seam}
-use Rattle.jasmin_reader.specs.declared.fault.ReadKind.{ReadKind}
-use Rattle.jasmin_reader.specs.declared.fault.ReadKind.TheVariants.{BadDirective, BadMnemonic, BadOperand, BadName}
-use Rattle.jasmin_reader.specs.declared.form.Form.{Form}
-use Rattle.jasmin_reader.specs.declared.form.Form.TheVariants as form
-use Rattle.jasmin_reader.specs.declared.lexeme.Lexeme.{Lexeme}
-use Rattle.jasmin_reader.specs.declared.lexeme.Lexeme.TheVariants as lexeme
-use Rattle.jasmin_reader.specs.declared.mnemonic.Mnemonic.{Mnemonic}
-use Rattle.jasmin_reader.specs.Directives.{directive_form}
-use Rattle.jasmin_reader.specs.Faults.{◌>>=◌, kind_number}
-use Rattle.jasmin_reader.specs.Forms.{code, unlabelled_form, labelled_form, label_of, coded, begins_with_dot, form_of}
-use Rattle.jasmin_reader.specs.Instructions.{instruction}
-use Rattle.jasmin_reader.specs.Said.{PlainSaid}
-use Rattle.jasmin_reader.specs.Words.{named, is_name}
+use Rattle.jasmin_lines.specs.declared.fault.ReadKind.{ReadKind}
+use Rattle.jasmin_lines.specs.declared.fault.ReadKind.TheVariants.{BadDirective, BadMnemonic, BadOperand, BadName}
+use Rattle.jasmin_lines.specs.declared.form.Form.{Form}
+use Rattle.jasmin_lines.specs.declared.form.Form.TheVariants as form
+use Rattle.jasmin_lines.specs.declared.lexeme.Lexeme.{Lexeme}
+use Rattle.jasmin_lines.specs.declared.lexeme.Lexeme.TheVariants as lexeme
+use Rattle.jasmin_lines.specs.declared.mnemonic.Mnemonic.{Mnemonic}
+use Rattle.jasmin_lines.specs.Directives.{directive_form}
+use Rattle.jasmin_lines.specs.Faults.{◌>>=◌, kind_number}
+use Rattle.jasmin_lines.specs.Forms.{code, unlabelled_form, labelled_form, label_of, coded, begins_with_dot, form_of}
+use Rattle.jasmin_lines.specs.Instructions.{instruction}
+use Rattle.jasmin_lines.specs.Said.{PlainSaid}
+use Rattle.jasmin_lines.specs.Words.{named, is_name}
 use Rattle.text_laws.specs.LineRules.{IsLeast, HasNone}
 use Rattle.text_laws.specs.WordRules.{directives, FollowsDirective, FollowsMnemonic, IsDotted, IsDirectiveLine, IsLabelLine, IsBareLine, HasInstruction, Bare, Labelled, BeginsWith, IsSpoiled, UnknownDirective, WrongWords, WrongName, UnknownMnemonic, WrongOperands, WrongOperandName, WrongLabel}
 use Rattle.text_laws.proofs.DirectiveAnswers.{directive-answers}

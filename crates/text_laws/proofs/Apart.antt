@@ -4,7 +4,7 @@ use Rattle.std.specs.Prelude.{codes}
 use Rattle.std.specs.List.{flat_map}
 use Rattle.jasmin_text.specs.declared.token.Token.{Token}
 use Rattle.jasmin_writer.specs.Canonical.{label_line, code_lines, catch_line, begun, method_head, method_limits, method_body, method_lines, field_line, name_line, implements_line, members, class_lines, class_text, canonical}
-use Rattle.jasmin_reader.specs.Plain.{PlainFieldText, PlainMethodText, PlainClassText}
+use Rattle.jasmin_lines.specs.Plain.{PlainFieldText, PlainMethodText, PlainClassText}
 use Rattle.jasmin_reader.specs.Reading.{reading}
 use Rattle.text_laws.specs.Alike.{name_without_line, catch_without_line, code_without_line, field_without_line, method_without_lines, without_lines, AreAlike, ReadsAlike}
 

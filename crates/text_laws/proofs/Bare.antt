@@ -1,8 +1,8 @@
 -- The numbers of lines don't matter for what is made of forms.
 use Rattle.std.proofs.Common.{◌≡◌, ℕ, ◌+◌, List, [], ◌∷◌, map, refl, ap, sym, ◌∙◌}
-use Rattle.jasmin_reader.specs.declared.form.Form.{Form}
-use Rattle.jasmin_reader.specs.declared.form.Form.TheVariants as form
-use Rattle.jasmin_reader.specs.Plain.{PlainLineText, PlainClassText}
+use Rattle.jasmin_lines.specs.declared.form.Form.{Form}
+use Rattle.jasmin_lines.specs.declared.form.Form.TheVariants as form
+use Rattle.jasmin_lines.specs.Plain.{PlainLineText, PlainClassText}
 use Rattle.jasmin_reader.specs.Assembly.{PlainBody, PlainMembers, PlainParts, no_parts, with_form, parts_of, classes_of, labelled_lines, labelled_end}
 use Rattle.text_laws.specs.Alike.{name_without_line, catch_without_line, code_without_line, field_without_line, method_without_lines, without_lines, AreAlike}
 use Rattle.text_laws.proofs.Again.{on_line}

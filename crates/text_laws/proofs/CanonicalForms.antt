@@ -1,16 +1,16 @@
 -- The lines of a canonical text: their forms, and the words of each.
 use Rattle.std.specs.Prelude.{ℕ, Bool, ◌==◌, if◌then◌else◌, List, [], ◌∷◌, ◌++◌, length, map, codes, ℤ, pos, Option, Some, None}
 use Rattle.std.specs.List.{flat_map}
-use Rattle.jasmin_reader.specs.declared.class_text.Operand.{Operand}
-use Rattle.jasmin_reader.specs.declared.class_text.Operand.TheVariants as operand
-use Rattle.jasmin_reader.specs.declared.class_text.NameAt.{NameAt}
-use Rattle.jasmin_reader.specs.declared.class_text.CatchText.{CatchText}
-use Rattle.jasmin_reader.specs.declared.form.Form.{Form}
-use Rattle.jasmin_reader.specs.declared.form.Form.TheVariants as form
-use Rattle.jasmin_reader.specs.declared.lexeme.Lexeme.{Lexeme}
-use Rattle.jasmin_reader.specs.declared.lexeme.Lexeme.TheVariants as lexeme
-use Rattle.jasmin_reader.specs.Directives.{empty_class, empty_method}
-use Rattle.jasmin_reader.specs.Plain.{PlainLineText, PlainFieldText, PlainMethodText, PlainClassText}
+use Rattle.jasmin_lines.specs.declared.class_text.Operand.{Operand}
+use Rattle.jasmin_lines.specs.declared.class_text.Operand.TheVariants as operand
+use Rattle.jasmin_lines.specs.declared.class_text.NameAt.{NameAt}
+use Rattle.jasmin_lines.specs.declared.class_text.CatchText.{CatchText}
+use Rattle.jasmin_lines.specs.declared.form.Form.{Form}
+use Rattle.jasmin_lines.specs.declared.form.Form.TheVariants as form
+use Rattle.jasmin_lines.specs.declared.lexeme.Lexeme.{Lexeme}
+use Rattle.jasmin_lines.specs.declared.lexeme.Lexeme.TheVariants as lexeme
+use Rattle.jasmin_lines.specs.Directives.{empty_class, empty_method}
+use Rattle.jasmin_lines.specs.Plain.{PlainLineText, PlainFieldText, PlainMethodText, PlainClassText}
 use Rattle.text_laws.specs.Spelled.{spelled_line}
 
 -- ---- the words of a line

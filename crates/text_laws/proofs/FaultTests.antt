@@ -4,10 +4,10 @@ use Rattle.std.specs.Prelude.{Contains, bytes_eq}
 use Rattle.std.specs.List.{AllByRecursion, list_any}
 use Rattle.std.proofs.lemmas.List.Elements.{All-from_recursion, All-contains, Contains-append_right}
 use Rattle.std.proofs.lemmas.Slice.Eq.{bytes_eq-Decides}
-use Rattle.jasmin_reader.specs.declared.fault.ReadKind.{ReadKind}
-use Rattle.jasmin_reader.specs.declared.fault.ReadKind.TheVariants.{NoClass, BadDirective, BadMnemonic, BadOperand, BadName, OutsideMethod, InMethod, NoSuper, LabelTwice, EndMissing, TooMany, Repeat}
-use Rattle.jasmin_reader.specs.declared.form.Form.{Form}
-use Rattle.jasmin_reader.specs.Faults.{kind_number}
+use Rattle.jasmin_lines.specs.declared.fault.ReadKind.{ReadKind}
+use Rattle.jasmin_lines.specs.declared.fault.ReadKind.TheVariants.{NoClass, BadDirective, BadMnemonic, BadOperand, BadName, OutsideMethod, InMethod, NoSuper, LabelTwice, EndMissing, TooMany, Repeat}
+use Rattle.jasmin_lines.specs.declared.form.Form.{Form}
+use Rattle.jasmin_lines.specs.Faults.{kind_number}
 use Rattle.text_laws.proofs.Tests.{or-first, or-second}
 
 -- ---- tests of lists

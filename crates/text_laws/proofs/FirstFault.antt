@@ -2,14 +2,14 @@
 use Rattle.std.proofs.Common.{◌≡◌, ℕ, Bool, true, false, List, [], ◌∷◌, ◌++◌, Result, Ok, Err, refl, ap, sym, ◌∙◌, subst, cond, inl, inr}
 use Rattle.std.specs.Prelude.{◌↔◌}
 use Rattle.jasmin_text.specs.declared.token.Token.{Token}
-use Rattle.jasmin_reader.specs.declared.fault.ReadKind.{ReadKind}
-use Rattle.jasmin_reader.specs.declared.fault.ReadKind.TheVariants.{NoSuper}
+use Rattle.jasmin_lines.specs.declared.fault.ReadKind.{ReadKind}
+use Rattle.jasmin_lines.specs.declared.fault.ReadKind.TheVariants.{NoSuper}
 use Rattle.jasmin_reader.specs.declared.fault.Refusal.{Refusal}
-use Rattle.jasmin_reader.specs.declared.form.Form.{Form}
+use Rattle.jasmin_lines.specs.declared.form.Form.{Form}
 use Rattle.jasmin_reader.specs.Assembly.{classes_of}
 use Rattle.jasmin_reader.specs.Grammar.{PlainState, lacks_super, form_among}
-use Rattle.jasmin_reader.specs.Lexemes.{PlainLine, lines_after}
-use Rattle.jasmin_reader.specs.Plain.{PlainClassText}
+use Rattle.jasmin_lines.specs.Lexemes.{PlainLine, lines_after}
+use Rattle.jasmin_lines.specs.Plain.{PlainClassText}
 use Rattle.jasmin_reader.specs.Reading.{last_line, reading}
 use Rattle.text_laws.specs.LineFaults.{form_alone, form_if, forms_alone, begun_after, fault_of, faults_behind, line_faults, IsFirst}
 use Rattle.text_laws.specs.LineRules.{HasFault, IsLeast, HasNone, IsFirstFault, IsFaultOfText, state_after}

@@ -3,9 +3,9 @@ use Rattle.std.proofs.Common.{◌≡◌, ℕ, Bool, true, false, List, [], ◌�
 use Rattle.std.specs.Prelude.{bytes_eq}
 use Rattle.std.specs.List.{list_any, list_all, filter, AllByRecursion}
 use Rattle.std.proofs.lemmas.Slice.Eq.{bytes_eq-Decides}
-use Rattle.jasmin_reader.specs.declared.fault.ReadKind.TheVariants.{BadOperand}
-use Rattle.jasmin_reader.specs.declared.lexeme.Lexeme.{Lexeme}
-use Rattle.jasmin_reader.specs.Words.{is_word, flags_of}
+use Rattle.jasmin_lines.specs.declared.fault.ReadKind.TheVariants.{BadOperand}
+use Rattle.jasmin_lines.specs.declared.lexeme.Lexeme.{Lexeme}
+use Rattle.jasmin_lines.specs.Words.{is_word, flags_of}
 use Rattle.text_laws.specs.Spelled.{IsSpellable}
 use Rattle.text_laws.proofs.CanonicalForms.{word}
 use Rattle.text_laws.proofs.Successes.{same-bytes}

@@ -1,13 +1,13 @@
 -- Each form that a line of a text was read as is read again.
 use Rattle.std.proofs.Common.{◌≡◌, ℕ, true, false, List, [], ◌∷◌, Option, Some, None, Ok, ◌∙◌, subst}
-use Rattle.jasmin_reader.specs.declared.form.Form.TheVariants as form
-use Rattle.jasmin_reader.specs.declared.lexeme.Lexeme.{Lexeme}
-use Rattle.jasmin_reader.specs.declared.lexeme.Lexeme.TheVariants as lexeme
-use Rattle.jasmin_reader.specs.Plain.{PlainLineText}
-use Rattle.jasmin_reader.specs.Said.{PlainSaid}
-use Rattle.jasmin_reader.specs.Words.{named, is_name}
-use Rattle.jasmin_reader.specs.Instructions.{instruction}
-use Rattle.jasmin_reader.specs.Forms.{code, unlabelled_form, labelled_form, label_of, coded, begins_with_dot, form_of}
+use Rattle.jasmin_lines.specs.declared.form.Form.TheVariants as form
+use Rattle.jasmin_lines.specs.declared.lexeme.Lexeme.{Lexeme}
+use Rattle.jasmin_lines.specs.declared.lexeme.Lexeme.TheVariants as lexeme
+use Rattle.jasmin_lines.specs.Plain.{PlainLineText}
+use Rattle.jasmin_lines.specs.Said.{PlainSaid}
+use Rattle.jasmin_lines.specs.Words.{named, is_name}
+use Rattle.jasmin_lines.specs.Instructions.{instruction}
+use Rattle.jasmin_lines.specs.Forms.{code, unlabelled_form, labelled_form, label_of, coded, begins_with_dot, form_of}
 use Rattle.text_laws.specs.OfText.{AreFound}
 use Rattle.text_laws.proofs.Tests.{tested}
 use Rattle.text_laws.proofs.Again.{IsAgain, AreAgain}

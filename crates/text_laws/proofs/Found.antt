@@ -8,9 +8,9 @@ use Rattle.jasmin_text.specs.Pieces.{kind_of_word}
 use Rattle.jasmin_text.specs.Spans.{IsWord, IsString, Says, slice_of, IsOf}
 use Rattle.jasmin_text.specs.Texts.{tokens_of}
 use Rattle.jasmin_text.proofs.Slices.{slices}
-use Rattle.jasmin_reader.specs.declared.lexeme.Lexeme.{Lexeme}
-use Rattle.jasmin_reader.specs.declared.lexeme.Lexeme.TheVariants as lexeme
-use Rattle.jasmin_reader.specs.Lexemes.{PlainLine, lexeme_by, lexeme_of, filled, lines_after}
+use Rattle.jasmin_lines.specs.declared.lexeme.Lexeme.{Lexeme}
+use Rattle.jasmin_lines.specs.declared.lexeme.Lexeme.TheVariants as lexeme
+use Rattle.jasmin_lines.specs.Lexemes.{PlainLine, lexeme_by, lexeme_of, filled, lines_after}
 use Rattle.text_laws.specs.Sizes.{is_quotable}
 use Rattle.text_laws.specs.Spelled.{IsPlainWord, BeginsNoComment}
 use Rattle.text_laws.specs.OfText.{is_text, IsFound, AreFound}

@@ -1,9 +1,9 @@
 -- What holds of classes that were read: each of their lines is read again, and no label of a method stands twice.
 use Rattle.std.specs.Prelude.{◌≡◌, ℕ, false, nat_eq, List, [], ◌∷◌, ◌++◌, length, bytes_eq, Option, Some, None}
 use Rattle.std.specs.List.{AllByRecursion, flat_map, list_any}
-use Rattle.jasmin_reader.specs.declared.form.Form.TheVariants as form
-use Rattle.jasmin_reader.specs.Directives.{empty_class}
-use Rattle.jasmin_reader.specs.Plain.{PlainLineText, PlainMethodText, PlainClassText}
+use Rattle.jasmin_lines.specs.declared.form.Form.TheVariants as form
+use Rattle.jasmin_lines.specs.Directives.{empty_class}
+use Rattle.jasmin_lines.specs.Plain.{PlainLineText, PlainMethodText, PlainClassText}
 use Rattle.jasmin_reader.specs.Assembly.{PlainBody, PlainMembers}
 use Rattle.text_laws.proofs.CanonicalForms.{unlabelled, head_form, super_of}
 use Rattle.text_laws.proofs.Again.{IsAgain}

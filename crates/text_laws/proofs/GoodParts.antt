@@ -3,13 +3,13 @@ use Rattle.std.proofs.Common.{◌≡◌, ℕ, Bool, true, false, not, ◌&&◌, 
 use Rattle.std.specs.Prelude.{bytes_eq}
 use Rattle.std.specs.List.{AllByRecursion, flat_map, list_any}
 use Rattle.std.proofs.lemmas.List.{append_assoc, append-nil}
-use Rattle.jasmin_reader.specs.declared.fault.ReadKind.{ReadKind}
-use Rattle.jasmin_reader.specs.declared.fault.ReadKind.TheVariants.{InMethod, OutsideMethod, NoSuper, LabelTwice, EndMissing}
-use Rattle.jasmin_reader.specs.declared.form.Form.{Form}
-use Rattle.jasmin_reader.specs.declared.form.Form.TheVariants as form
-use Rattle.jasmin_reader.specs.Plain.{PlainLineText}
-use Rattle.jasmin_reader.specs.Lexemes.{PlainLine}
-use Rattle.jasmin_reader.specs.Forms.{form_of}
+use Rattle.jasmin_lines.specs.declared.fault.ReadKind.{ReadKind}
+use Rattle.jasmin_lines.specs.declared.fault.ReadKind.TheVariants.{InMethod, OutsideMethod, NoSuper, LabelTwice, EndMissing}
+use Rattle.jasmin_lines.specs.declared.form.Form.{Form}
+use Rattle.jasmin_lines.specs.declared.form.Form.TheVariants as form
+use Rattle.jasmin_lines.specs.Plain.{PlainLineText}
+use Rattle.jasmin_lines.specs.Lexemes.{PlainLine}
+use Rattle.jasmin_lines.specs.Forms.{form_of}
 use Rattle.jasmin_reader.specs.Grammar.{PlainState, next_state, only_if, outside_methods, inside_method, lacks_super, has_label, misplaced, may_stand_first, is_end, placed, form_among}
 use Rattle.jasmin_reader.specs.Assembly.{PlainBody, PlainParts, no_parts, with_form, parts_of, labelled_lines, labelled_end}
 use Rattle.jasmin_reader.specs.Reading.{at_line, forms_after}

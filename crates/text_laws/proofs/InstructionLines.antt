@@ -2,22 +2,22 @@
 use Rattle.std.proofs.Common.{◌≡◌, ℕ, Bool, true, false, List, [], ◌∷◌, Option, Some, None, Result, Ok, ℤ, pos, negsuc, map, refl, ap, ◌∙◌, subst}
 use Rattle.std.specs.Prelude.{codes}
 use Rattle.std.specs.List.{AllByRecursion}
-use Rattle.jasmin_reader.specs.declared.class_text.Operand.{Operand}
-use Rattle.jasmin_reader.specs.declared.class_text.Operand.TheVariants as operand
-use Rattle.jasmin_reader.specs.declared.fault.ReadKind.{ReadKind}
-use Rattle.jasmin_reader.specs.declared.fault.ReadKind.TheVariants.{BadMnemonic}
-use Rattle.jasmin_reader.specs.declared.lexeme.Lexeme.{Lexeme}
-use Rattle.jasmin_reader.specs.declared.lexeme.Lexeme.TheVariants as lexeme
-use Rattle.jasmin_reader.specs.declared.mnemonic.Access.{Access}
-use Rattle.jasmin_reader.specs.declared.mnemonic.Access.TheVariants as access
-use Rattle.jasmin_reader.specs.declared.mnemonic.Mnemonic.{Mnemonic}
-use Rattle.jasmin_reader.specs.declared.mnemonic.Mnemonic.TheVariants as mnemonic
-use Rattle.jasmin_reader.specs.Faults.{◌>>=◌, or_fault}
-use Rattle.jasmin_reader.specs.Said.{PlainSaid}
-use Rattle.jasmin_reader.specs.Words.{none, one, two, word_of, in_range, number_of, named, is_name, is_class_name, is_method_name, name_of, class_name_of, is_member, described}
-use Rattle.jasmin_reader.specs.Mnemonics.{table, mnemonic_of}
-use Rattle.jasmin_reader.specs.Instructions.{with_one, with_two, pushed, access_word, on_local, constant_of, constant, push, local, increment, jump, field, call, class, is_int, array, said_by, instruction}
-use Rattle.jasmin_reader.specs.Forms.{label_of, begins_with_dot}
+use Rattle.jasmin_lines.specs.declared.class_text.Operand.{Operand}
+use Rattle.jasmin_lines.specs.declared.class_text.Operand.TheVariants as operand
+use Rattle.jasmin_lines.specs.declared.fault.ReadKind.{ReadKind}
+use Rattle.jasmin_lines.specs.declared.fault.ReadKind.TheVariants.{BadMnemonic}
+use Rattle.jasmin_lines.specs.declared.lexeme.Lexeme.{Lexeme}
+use Rattle.jasmin_lines.specs.declared.lexeme.Lexeme.TheVariants as lexeme
+use Rattle.jasmin_lines.specs.declared.mnemonic.Access.{Access}
+use Rattle.jasmin_lines.specs.declared.mnemonic.Access.TheVariants as access
+use Rattle.jasmin_lines.specs.declared.mnemonic.Mnemonic.{Mnemonic}
+use Rattle.jasmin_lines.specs.declared.mnemonic.Mnemonic.TheVariants as mnemonic
+use Rattle.jasmin_lines.specs.Faults.{◌>>=◌, or_fault}
+use Rattle.jasmin_lines.specs.Said.{PlainSaid}
+use Rattle.jasmin_lines.specs.Words.{none, one, two, word_of, in_range, number_of, named, is_name, is_class_name, is_method_name, name_of, class_name_of, is_member, described}
+use Rattle.jasmin_lines.specs.Mnemonics.{table, mnemonic_of}
+use Rattle.jasmin_lines.specs.Instructions.{with_one, with_two, pushed, access_word, on_local, constant_of, constant, push, local, increment, jump, field, call, class, is_int, array, said_by, instruction}
+use Rattle.jasmin_lines.specs.Forms.{label_of, begins_with_dot}
 use Rattle.text_laws.specs.Sizes.{IsSmall, is_quotable}
 use Rattle.text_laws.specs.Spelled.{IsSpellable, IsSpellableLine}
 use Rattle.text_laws.specs.OfText.{is_text, IsFound, AreFound}

@@ -1,18 +1,18 @@
 -- An instruction is read where its words follow the rules, and else has the fault that they give it.
 use Rattle.std.proofs.Common.{◌≡◌, ℕ, ◌-◌, Bool, true, false, ◌&&◌, List, [], ◌∷◌, Option, Some, None, Result, Ok, Err, refl, ap, sym, ◌∙◌, subst, ℤ, pos, negsuc, inl, inr, ◌⊎◌}
 use Rattle.vm_model.specs.declared.limits.TheConstants.{MOST_LOCALS}
-use Rattle.jasmin_reader.specs.declared.fault.ReadKind.{ReadKind}
-use Rattle.jasmin_reader.specs.declared.fault.ReadKind.TheVariants.{BadMnemonic}
-use Rattle.jasmin_reader.specs.declared.lexeme.Lexeme.{Lexeme}
-use Rattle.jasmin_reader.specs.declared.lexeme.Lexeme.TheVariants as lexeme
-use Rattle.jasmin_reader.specs.declared.mnemonic.Access.{Access}
-use Rattle.jasmin_reader.specs.declared.mnemonic.Mnemonic.{Mnemonic}
-use Rattle.jasmin_reader.specs.declared.mnemonic.Mnemonic.TheVariants as mnemonic
-use Rattle.jasmin_reader.specs.Faults.{◌>>=◌, or_fault}
-use Rattle.jasmin_reader.specs.Instructions.{alone, pushed, on_local, constant_of, constant, push, local, increment, jump, field, call, class, array, said_by, instruction}
-use Rattle.jasmin_reader.specs.Mnemonics.{mnemonic_of}
-use Rattle.jasmin_reader.specs.Said.{PlainSaid}
-use Rattle.jasmin_reader.specs.Words.{none, one, two, word_of, in_range, number_of, is_name, is_class_name, is_method_name, is_member, described}
+use Rattle.jasmin_lines.specs.declared.fault.ReadKind.{ReadKind}
+use Rattle.jasmin_lines.specs.declared.fault.ReadKind.TheVariants.{BadMnemonic}
+use Rattle.jasmin_lines.specs.declared.lexeme.Lexeme.{Lexeme}
+use Rattle.jasmin_lines.specs.declared.lexeme.Lexeme.TheVariants as lexeme
+use Rattle.jasmin_lines.specs.declared.mnemonic.Access.{Access}
+use Rattle.jasmin_lines.specs.declared.mnemonic.Mnemonic.{Mnemonic}
+use Rattle.jasmin_lines.specs.declared.mnemonic.Mnemonic.TheVariants as mnemonic
+use Rattle.jasmin_lines.specs.Faults.{◌>>=◌, or_fault}
+use Rattle.jasmin_lines.specs.Instructions.{alone, pushed, on_local, constant_of, constant, push, local, increment, jump, field, call, class, array, said_by, instruction}
+use Rattle.jasmin_lines.specs.Mnemonics.{mnemonic_of}
+use Rattle.jasmin_lines.specs.Said.{PlainSaid}
+use Rattle.jasmin_lines.specs.Words.{none, one, two, word_of, in_range, number_of, is_name, is_class_name, is_method_name, is_member, described}
 use Rattle.text_laws.specs.WordRules.{IsFrom, IsConstant, IsDescribed, IsMemberOf, FollowsMnemonic, BeginsWith}
 use Rattle.text_laws.proofs.Successes.{none-is, one-is, two-is, word-is, number-is}
 use Rattle.text_laws.proofs.WordParts.{described-is, described-again, member-is, member-again}

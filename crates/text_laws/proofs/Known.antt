@@ -2,8 +2,8 @@
 use Rattle.std.proofs.Common.{◌≡◌, ℕ, List, [], ◌∷◌, Ok, refl, map}
 use Rattle.std.specs.Prelude.{codes}
 use Rattle.std.specs.List.{AllByRecursion}
-use Rattle.jasmin_reader.specs.declared.lexeme.Lexeme.{Lexeme}
-use Rattle.jasmin_reader.specs.Directives.{class_flags, field_flags, method_flags}
+use Rattle.jasmin_lines.specs.declared.lexeme.Lexeme.{Lexeme}
+use Rattle.jasmin_lines.specs.Directives.{class_flags, field_flags, method_flags}
 use Rattle.text_laws.specs.Spelled.{IsSpellable}
 use Rattle.text_laws.proofs.CanonicalForms.{word}
 use Rattle.text_laws.proofs.Names.{good-words}

@@ -9,14 +9,14 @@ use Rattle.std.proofs.lemmas.List.Folds.{list_any-append, list_all-append}
 use Rattle.std.proofs.Math.Seq.{take-append_seam}
 use Rattle.jasmin_text.specs.Numbers.{is_digits, is_number}
 use Rattle.jasmin_text.specs.Pieces.{is_white, is_high}
-use Rattle.jasmin_reader.specs.declared.fault.ReadKind.{ReadKind}
-use Rattle.jasmin_reader.specs.declared.form.Form.{Form}
-use Rattle.jasmin_reader.specs.declared.form.Form.TheVariants as form
-use Rattle.jasmin_reader.specs.declared.lexeme.Lexeme.{Lexeme}
-use Rattle.jasmin_reader.specs.declared.lexeme.Lexeme.TheVariants as lexeme
-use Rattle.jasmin_reader.specs.Words.{named, is_name_byte, is_filled, is_name}
-use Rattle.jasmin_reader.specs.Directives.{directive_form}
-use Rattle.jasmin_reader.specs.Forms.{labelled_form, label_of, coded, begins_with_dot, form_of}
+use Rattle.jasmin_lines.specs.declared.fault.ReadKind.{ReadKind}
+use Rattle.jasmin_lines.specs.declared.form.Form.{Form}
+use Rattle.jasmin_lines.specs.declared.form.Form.TheVariants as form
+use Rattle.jasmin_lines.specs.declared.lexeme.Lexeme.{Lexeme}
+use Rattle.jasmin_lines.specs.declared.lexeme.Lexeme.TheVariants as lexeme
+use Rattle.jasmin_lines.specs.Words.{named, is_name_byte, is_filled, is_name}
+use Rattle.jasmin_lines.specs.Directives.{directive_form}
+use Rattle.jasmin_lines.specs.Forms.{labelled_form, label_of, coded, begins_with_dot, form_of}
 use Rattle.text_laws.specs.Spelled.{IsSpellable, BeginsNoString}
 use Rattle.text_laws.proofs.Tests.{and-first, and-second, none-of}
 use Rattle.text_laws.proofs.Numbers.{kind-is}

@@ -10,15 +10,15 @@ use Rattle.jasmin_text.specs.declared.token.TokenKind.{TokenKind}
 use Rattle.jasmin_text.specs.declared.token.TokenKind.TheVariants as token
 use Rattle.jasmin_text.specs.Spans.{Says, IsLineEnd}
 use Rattle.jasmin_text.specs.Texts.{tokens_of}
-use Rattle.jasmin_reader.specs.declared.fault.ReadKind.{ReadKind}
-use Rattle.jasmin_reader.specs.declared.fault.ReadKind.TheVariants.{NoSuper}
+use Rattle.jasmin_lines.specs.declared.fault.ReadKind.{ReadKind}
+use Rattle.jasmin_lines.specs.declared.fault.ReadKind.TheVariants.{NoSuper}
 use Rattle.jasmin_reader.specs.declared.fault.Refusal.{Refusal}
-use Rattle.jasmin_reader.specs.declared.form.Form.{Form}
-use Rattle.jasmin_reader.specs.declared.form.Form.TheVariants as form
-use Rattle.jasmin_reader.specs.declared.lexeme.Lexeme.{Lexeme}
-use Rattle.jasmin_reader.specs.Faults.{kind_number}
+use Rattle.jasmin_lines.specs.declared.form.Form.{Form}
+use Rattle.jasmin_lines.specs.declared.form.Form.TheVariants as form
+use Rattle.jasmin_lines.specs.declared.lexeme.Lexeme.{Lexeme}
+use Rattle.jasmin_lines.specs.Faults.{kind_number}
 use Rattle.jasmin_reader.specs.Grammar.{form_among}
-use Rattle.jasmin_reader.specs.Lexemes.{PlainLine, lexeme_by, lexeme_of, filled, lines_after}
+use Rattle.jasmin_lines.specs.Lexemes.{PlainLine, lexeme_by, lexeme_of, filled, lines_after}
 use Rattle.jasmin_reader.specs.Reading.{last_line, reading}
 use Rattle.text_laws.specs.LineFaults.{form_alone, form_if}
 use Rattle.text_laws.specs.LineRules.{is_class, is_method, is_stack_limit, is_locals_limit, comes_after_super, ends_method, Stands, IsMethodOpen, IsSuperSaid, IsSuperToCome, SetsAgain, IsMisplaced, OfMethod, OfClass, BeforeSuper, LabelAgain, NeverEnded, SuperAgain, StackAgain, LocalsAgain, HasFault, BeforeClasses, ByItself, Misplaced, IsLeast, HasNone, IsFirstFault, IsFaultOfText, IsAnyFault, IsNoLater, IsLeastOfText, state_after}

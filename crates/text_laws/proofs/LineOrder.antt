@@ -11,13 +11,13 @@ use Rattle.jasmin_text.specs.Pieces.{is_white, piece_at}
 use Rattle.jasmin_text.specs.Places.{along, next_line, first_place}
 use Rattle.jasmin_text.specs.Texts.{Spoiled, with_front, with_piece, token_at, line_end, left_of_line, tokens_after, tokens_of}
 use Rattle.jasmin_text.proofs.InOrder.{OfTokens}
-use Rattle.jasmin_reader.specs.declared.fault.ReadKind.{ReadKind}
-use Rattle.jasmin_reader.specs.declared.fault.ReadKind.TheVariants.{NoSuper}
+use Rattle.jasmin_lines.specs.declared.fault.ReadKind.{ReadKind}
+use Rattle.jasmin_lines.specs.declared.fault.ReadKind.TheVariants.{NoSuper}
 use Rattle.jasmin_reader.specs.declared.fault.Refusal.{Refusal}
-use Rattle.jasmin_reader.specs.declared.form.Form.{Form}
-use Rattle.jasmin_reader.specs.declared.lexeme.Lexeme.{Lexeme}
+use Rattle.jasmin_lines.specs.declared.form.Form.{Form}
+use Rattle.jasmin_lines.specs.declared.lexeme.Lexeme.{Lexeme}
 use Rattle.jasmin_reader.specs.Grammar.{PlainState, nothing_begun, lacks_super, form_among}
-use Rattle.jasmin_reader.specs.Lexemes.{PlainLine, lexeme_of, filled, lines_after}
+use Rattle.jasmin_lines.specs.Lexemes.{PlainLine, lexeme_of, filled, lines_after}
 use Rattle.jasmin_reader.specs.Reading.{last_line, reading}
 use Rattle.text_laws.specs.LineFaults.{form_alone, begun_after, fault_of, faults_behind, line_faults, IsFirst}
 use Rattle.text_laws.proofs.Lines.{goes_on}

@@ -2,16 +2,16 @@
 use Rattle.std.proofs.Common.{◌≡◌, ◌≢◌, ℕ, ◌≤◌, ◌<◌, Bool, true, false, not, ◌&&◌, ◌||◌, List, [], ◌∷◌, Option, Some, None, Result, Ok, Err, refl, arith, ap, sym, ◌∙◌, subst, cond}
 use Rattle.std.specs.Prelude.{bytes_eq, codes}
 use Rattle.std.specs.List.{list_any}
-use Rattle.jasmin_reader.specs.declared.fault.ReadKind.{ReadKind}
-use Rattle.jasmin_reader.specs.declared.fault.ReadKind.TheVariants.{NoClass, OutsideMethod, InMethod, NoSuper, LabelTwice, EndMissing, Repeat}
-use Rattle.jasmin_reader.specs.declared.form.Form.{Form}
-use Rattle.jasmin_reader.specs.declared.form.Form.TheVariants as form
-use Rattle.jasmin_reader.specs.declared.lexeme.Lexeme.{Lexeme}
-use Rattle.jasmin_reader.specs.declared.lexeme.Lexeme.TheVariants as lexeme
-use Rattle.jasmin_reader.specs.Faults.{kind_number, ◌>>=◌}
+use Rattle.jasmin_lines.specs.declared.fault.ReadKind.{ReadKind}
+use Rattle.jasmin_lines.specs.declared.fault.ReadKind.TheVariants.{NoClass, OutsideMethod, InMethod, NoSuper, LabelTwice, EndMissing, Repeat}
+use Rattle.jasmin_lines.specs.declared.form.Form.{Form}
+use Rattle.jasmin_lines.specs.declared.form.Form.TheVariants as form
+use Rattle.jasmin_lines.specs.declared.lexeme.Lexeme.{Lexeme}
+use Rattle.jasmin_lines.specs.declared.lexeme.Lexeme.TheVariants as lexeme
+use Rattle.jasmin_lines.specs.Faults.{kind_number, ◌>>=◌}
 use Rattle.jasmin_reader.specs.Grammar.{PlainState, only_if, outside_methods, inside_method, lacks_super, has_label, misplaced, may_stand_first, is_end, is_end_of, placed, form_among}
-use Rattle.jasmin_reader.specs.Lexemes.{PlainLine}
-use Rattle.jasmin_reader.specs.Words.{is_word}
+use Rattle.jasmin_lines.specs.Lexemes.{PlainLine}
+use Rattle.jasmin_lines.specs.Words.{is_word}
 use Rattle.text_laws.specs.LineFaults.{form_alone}
 use Rattle.text_laws.specs.LineRules.{is_class, is_of_class, is_of_method, comes_after_super, is_method, is_super, is_stack_limit, is_locals_limit, begins_as_first, begins_anew, end_words, IsMethodOpen, NoEndComes, SetsAgain, IsMisplaced, OfMethod, OfClass, BeforeSuper, LabelAgain, NeverEnded, SuperAgain, StackAgain, LocalsAgain, HasFault, BeforeClasses, ByItself, Misplaced, IsLeast, HasNone, state_after}
 use Rattle.text_laws.proofs.AloneRules.{err-spoiled, spoiled-least}

@@ -12,8 +12,8 @@ use Rattle.jasmin_text.specs.Places.{along, next_line}
 use Rattle.jasmin_text.specs.Spans.{BeginsWhite, slice_of}
 use Rattle.jasmin_text.specs.Texts.{Spoiled, with_front, token_at, line_end, tokens_after, tokens_of}
 use Rattle.jasmin_text.proofs.Turns.{piece-cut, front-none}
-use Rattle.jasmin_reader.specs.declared.lexeme.Lexeme.{Lexeme}
-use Rattle.jasmin_reader.specs.Lexemes.{PlainLine, lexeme_of, filled, lines_after}
+use Rattle.jasmin_lines.specs.declared.lexeme.Lexeme.{Lexeme}
+use Rattle.jasmin_lines.specs.Lexemes.{PlainLine, lexeme_of, filled, lines_after}
 use Rattle.text_laws.specs.Alike.{HasLines}
 use Rattle.text_laws.specs.Spelled.{text_of, spaced, spelled_line, spelled, IsSpellable, IsSpellableLine, numbered}
 use Rattle.text_laws.proofs.Pieces.{kind_by, piece-read, begins, Begins, said-again}

@@ -3,14 +3,14 @@ use Rattle.std.proofs.Common.{◌≡◌, ℕ, Bool, true, false, ◌&&◌, ◌||
 use Rattle.std.specs.Prelude.{codes, unsigned_abs, bytes_eq}
 use Rattle.std.specs.List.{AllByRecursion, list_any}
 use Rattle.std.proofs.lemmas.List.{take-append-drop}
-use Rattle.jasmin_reader.specs.declared.fault.ReadKind.{ReadKind}
-use Rattle.jasmin_reader.specs.declared.form.Form.{Form}
-use Rattle.jasmin_reader.specs.declared.form.Form.TheVariants as form
-use Rattle.jasmin_reader.specs.declared.lexeme.Lexeme.{Lexeme}
-use Rattle.jasmin_reader.specs.declared.lexeme.Lexeme.TheVariants as lexeme
-use Rattle.jasmin_reader.specs.Words.{one, two, word_of, in_range, number_of, is_word, named, is_name, is_class_name, is_method_name, split_at, described}
-use Rattle.jasmin_reader.specs.Directives.{split_last, method_flags, empty_method, source_form, method_form, limit_of, limit_form, end_form, catch_of, catch_form, class_directive, method_directive, directive_form}
-use Rattle.jasmin_reader.specs.Forms.{form_of}
+use Rattle.jasmin_lines.specs.declared.fault.ReadKind.{ReadKind}
+use Rattle.jasmin_lines.specs.declared.form.Form.{Form}
+use Rattle.jasmin_lines.specs.declared.form.Form.TheVariants as form
+use Rattle.jasmin_lines.specs.declared.lexeme.Lexeme.{Lexeme}
+use Rattle.jasmin_lines.specs.declared.lexeme.Lexeme.TheVariants as lexeme
+use Rattle.jasmin_lines.specs.Words.{one, two, word_of, in_range, number_of, is_word, named, is_name, is_class_name, is_method_name, split_at, described}
+use Rattle.jasmin_lines.specs.Directives.{split_last, method_flags, empty_method, source_form, method_form, limit_of, limit_form, end_form, catch_of, catch_form, class_directive, method_directive, directive_form}
+use Rattle.jasmin_lines.specs.Forms.{form_of}
 use Rattle.text_laws.specs.Sizes.{IsSmall}
 use Rattle.text_laws.specs.Spelled.{IsSpellable, BeginsNoComment}
 use Rattle.text_laws.specs.OfText.{is_text, IsFound, AreFound}

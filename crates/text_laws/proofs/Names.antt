@@ -6,8 +6,8 @@ use Rattle.std.proofs.lemmas.Bool.Decides.{nat_tests}
 use Rattle.std.proofs.lemmas.Slice.Eq.{bytes_eq-Decides}
 use Rattle.jasmin_text.specs.Numbers.{is_number}
 use Rattle.jasmin_text.specs.Pieces.{is_white, is_high}
-use Rattle.jasmin_reader.specs.declared.lexeme.Lexeme.TheVariants as lexeme
-use Rattle.jasmin_reader.specs.Words.{is_name_byte, is_class_byte, is_filled, is_name, is_class_name, is_method_name}
+use Rattle.jasmin_lines.specs.declared.lexeme.Lexeme.TheVariants as lexeme
+use Rattle.jasmin_lines.specs.Words.{is_name_byte, is_class_byte, is_filled, is_name, is_class_name, is_method_name}
 use Rattle.text_laws.specs.Spelled.{IsSpellable, IsPlainWord, BeginsNoString, BeginsNoComment}
 use Rattle.text_laws.specs.OfText.{IsFound}
 use Rattle.text_laws.proofs.Tests.{and-first, and-second, not-true, either}

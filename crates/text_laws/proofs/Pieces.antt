@@ -9,9 +9,9 @@ use Rattle.jasmin_text.specs.declared.token.TokenKind.{TokenKind}
 use Rattle.jasmin_text.specs.declared.token.TokenKind.TheVariants as token
 use Rattle.jasmin_text.specs.Pieces.{is_white, word_at, kind_of_word, word_piece, string_piece, string_after, piece_at}
 use Rattle.jasmin_text.specs.Spans.{BeginsWhite}
-use Rattle.jasmin_reader.specs.declared.lexeme.Lexeme.{Lexeme}
-use Rattle.jasmin_reader.specs.declared.lexeme.Lexeme.TheVariants as lexeme
-use Rattle.jasmin_reader.specs.Lexemes.{lexeme_by}
+use Rattle.jasmin_lines.specs.declared.lexeme.Lexeme.{Lexeme}
+use Rattle.jasmin_lines.specs.declared.lexeme.Lexeme.TheVariants as lexeme
+use Rattle.jasmin_lines.specs.Lexemes.{lexeme_by}
 use Rattle.text_laws.specs.Spelled.{text_of, IsSpellable, BeginsNoString, BeginsNoComment}
 use Rattle.text_laws.proofs.Tests.{or-first, or-second}
 use Rattle.text_laws.proofs.Numbers.{number-kind, number-dark, number-begins, BeginsNumber}

@@ -3,13 +3,13 @@ use Rattle.std.proofs.Common.{◌≡◌, ℕ, Bool, true, false, not, ◌&&◌, 
 use Rattle.std.specs.Prelude.{bytes_eq}
 use Rattle.std.specs.List.{AllByRecursion, flat_map, list_any}
 use Rattle.std.proofs.lemmas.List.{append_assoc, append-nil}
-use Rattle.jasmin_reader.specs.declared.class_text.NameAt.{NameAt}
-use Rattle.jasmin_reader.specs.declared.class_text.CatchText.{CatchText}
-use Rattle.jasmin_reader.specs.declared.fault.ReadKind.{ReadKind}
-use Rattle.jasmin_reader.specs.declared.fault.ReadKind.TheVariants.{InMethod, OutsideMethod, NoSuper, LabelTwice}
-use Rattle.jasmin_reader.specs.declared.form.Form.{Form}
-use Rattle.jasmin_reader.specs.declared.form.Form.TheVariants as form
-use Rattle.jasmin_reader.specs.Plain.{PlainLineText, PlainFieldText, PlainMethodText, PlainClassText}
+use Rattle.jasmin_lines.specs.declared.class_text.NameAt.{NameAt}
+use Rattle.jasmin_lines.specs.declared.class_text.CatchText.{CatchText}
+use Rattle.jasmin_lines.specs.declared.fault.ReadKind.{ReadKind}
+use Rattle.jasmin_lines.specs.declared.fault.ReadKind.TheVariants.{InMethod, OutsideMethod, NoSuper, LabelTwice}
+use Rattle.jasmin_lines.specs.declared.form.Form.{Form}
+use Rattle.jasmin_lines.specs.declared.form.Form.TheVariants as form
+use Rattle.jasmin_lines.specs.Plain.{PlainLineText, PlainFieldText, PlainMethodText, PlainClassText}
 use Rattle.jasmin_reader.specs.Grammar.{PlainState, nothing_begun, class_begun, method_begun, method_ended, super_said, stack_said, locals_said, labelled, only_if, outside_methods, inside_method, lacks_super, has_label, may_stand_first}
 use Rattle.text_laws.proofs.CanonicalForms.{words_of, unlabelled, line_forms, stack_forms, locals_forms, label_forms, catch_forms, head_form, method_forms, member_forms, named_forms, class_forms, forms_of, named_or}
 use Rattle.text_laws.proofs.Good.{AreFresh, labels_of, IsGoodMethod, IsGoodNamed, IsGoodClass, Interface, Named}

@@ -2,8 +2,8 @@
 use Rattle.std.proofs.Common.{◌≡◌, ℕ, Bool, true, false, not, ◌&&◌, ◌||◌, List, [], ◌∷◌, ◌++◌, refl, ap, sym, ◌∙◌, inl, inr}
 use Rattle.std.specs.Prelude.{Contains, bytes_eq}
 use Rattle.std.specs.List.{list_any}
-use Rattle.jasmin_reader.specs.declared.form.Form.{Form}
-use Rattle.jasmin_reader.specs.declared.form.Form.TheVariants as form
+use Rattle.jasmin_lines.specs.declared.form.Form.{Form}
+use Rattle.jasmin_lines.specs.declared.form.Form.TheVariants as form
 use Rattle.jasmin_reader.specs.Grammar.{PlainState, next_state, lacks_super, has_label}
 use Rattle.text_laws.specs.LineRules.{is_class, is_super, is_method, is_stack_limit, is_locals_limit, ends_method, begins_anew, sets, Stands, IsMethodOpen, IsSuperToCome, state_after}
 use Rattle.text_laws.proofs.FaultTests.{any-found, any-there}

@@ -4,13 +4,14 @@ use Rattle.std.specs.Prelude.{slice_index, bytes_eq, int_le}
 use Rattle.std.specs.List.{list_all}
 use Rattle.std.proofs.lemmas.Bool.Decides.{nat_tests}
 use Rattle.std.proofs.lemmas.Slice.Eq.{bytes_eq-Decides}
-use Rattle.jasmin_reader.specs.declared.lexeme.Lexeme.TheVariants as lexeme
-use Rattle.jasmin_reader.specs.declared.mnemonic.Access.{Access}
-use Rattle.jasmin_reader.specs.declared.mnemonic.Mnemonic.{Mnemonic}
-use Rattle.jasmin_reader.specs.declared.mnemonic.Mnemonic.TheVariants as mnemonic
-use Rattle.jasmin_reader.specs.Words.{in_range}
-use Rattle.jasmin_reader.specs.Mnemonics.{row_of, table, mnemonic_of}
-use Rattle.jasmin_reader.specs.Forms.{label_of, begins_with_dot}
+use Rattle.jasmin_lines.specs.declared.lexeme.Lexeme.TheVariants as lexeme
+use Rattle.jasmin_lines.specs.declared.mnemonic.Access.{Access}
+use Rattle.jasmin_lines.specs.declared.mnemonic.Mnemonic.{Mnemonic}
+use Rattle.jasmin_lines.specs.declared.mnemonic.Mnemonic.TheVariants as mnemonic
+use Rattle.jasmin_lines.specs.Words.{in_range}
+use Rattle.jasmin_lines.specs.Tables.{row_of}
+use Rattle.jasmin_lines.specs.Mnemonics.{table, mnemonic_of}
+use Rattle.jasmin_lines.specs.Forms.{label_of, begins_with_dot}
 use Rattle.text_laws.specs.Sizes.{IsSmall}
 use Rattle.text_laws.specs.Spelled.{IsSpellable}
 use Rattle.text_laws.proofs.Tests.{and-first, and-second, not-true}

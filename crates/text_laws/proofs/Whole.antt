@@ -4,14 +4,14 @@ use Rattle.std.specs.Prelude.{codes}
 use Rattle.std.specs.List.{AllByRecursion, flat_map}
 use Rattle.jasmin_text.specs.declared.token.Token.{Token}
 use Rattle.jasmin_text.specs.Texts.{tokens_of}
-use Rattle.jasmin_reader.specs.declared.form.Form.{Form}
-use Rattle.jasmin_reader.specs.declared.form.Form.TheVariants as form
-use Rattle.jasmin_reader.specs.declared.lexeme.Lexeme.TheVariants as lexeme
+use Rattle.jasmin_lines.specs.declared.form.Form.{Form}
+use Rattle.jasmin_lines.specs.declared.form.Form.TheVariants as form
+use Rattle.jasmin_lines.specs.declared.lexeme.Lexeme.TheVariants as lexeme
 use Rattle.jasmin_writer.specs.Canonical.{canonical}
-use Rattle.jasmin_reader.specs.Plain.{PlainLineText, PlainMethodText, PlainClassText}
-use Rattle.jasmin_reader.specs.Lexemes.{lines_after}
-use Rattle.jasmin_reader.specs.Directives.{end_form}
-use Rattle.jasmin_reader.specs.Forms.{form_of}
+use Rattle.jasmin_lines.specs.Plain.{PlainLineText, PlainMethodText, PlainClassText}
+use Rattle.jasmin_lines.specs.Lexemes.{lines_after}
+use Rattle.jasmin_lines.specs.Directives.{end_form}
+use Rattle.jasmin_lines.specs.Forms.{form_of}
 use Rattle.jasmin_reader.specs.Grammar.{nothing_begun}
 use Rattle.jasmin_reader.specs.Assembly.{no_parts, parts_of, classes_of}
 use Rattle.jasmin_reader.specs.Reading.{forms_after, last_line, reading}

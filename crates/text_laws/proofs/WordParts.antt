@@ -5,9 +5,9 @@ use Rattle.std.proofs.lemmas.Bool.Decides.{nat_tests}
 use Rattle.std.proofs.lemmas.List.{drop-drop, take-append-drop, length-append, length-drop}
 use Rattle.std.proofs.Math.Seq.{take-append_seam, drop-append_seam}
 use Rattle.jasmin_text.proofs.Skipping.{position-found}
-use Rattle.jasmin_reader.specs.declared.fault.ReadKind.{ReadKind}
-use Rattle.jasmin_reader.specs.declared.fault.ReadKind.TheVariants.{BadOperand}
-use Rattle.jasmin_reader.specs.Words.{slash_from, last_slash, is_member_at, is_member, split_at, described, is_class_name}
+use Rattle.jasmin_lines.specs.declared.fault.ReadKind.{ReadKind}
+use Rattle.jasmin_lines.specs.declared.fault.ReadKind.TheVariants.{BadOperand}
+use Rattle.jasmin_lines.specs.Words.{slash_from, last_slash, is_member_at, is_member, split_at, described, is_class_name}
 use Rattle.text_laws.specs.WordRules.{is_among, IsDescribed, IsMemberOf}
 use Rattle.text_laws.proofs.Tests.{is, or-first, or-second}
 

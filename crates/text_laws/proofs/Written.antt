@@ -5,16 +5,16 @@ use Rattle.std.specs.List.{flat_map}
 use Rattle.std.proofs.lemmas.List.{append_assoc, append-nil}
 use Rattle.std.proofs.lemmas.Grind.{flat_map-append}
 use Rattle.std.proofs.lemmas.List.Folds.{flat_map-map}
-use Rattle.jasmin_reader.specs.declared.class_text.Operand.{Operand}
-use Rattle.jasmin_reader.specs.declared.class_text.Operand.TheVariants as operand
-use Rattle.jasmin_reader.specs.declared.class_text.NameAt.{NameAt}
-use Rattle.jasmin_reader.specs.declared.class_text.CatchText.{CatchText}
-use Rattle.jasmin_reader.specs.declared.form.Form.{Form}
-use Rattle.jasmin_reader.specs.declared.form.Form.TheVariants as form
-use Rattle.jasmin_reader.specs.declared.lexeme.Lexeme.{Lexeme}
-use Rattle.jasmin_reader.specs.declared.lexeme.Lexeme.TheVariants as lexeme
-use Rattle.jasmin_reader.specs.Directives.{empty_class}
-use Rattle.jasmin_reader.specs.Plain.{PlainLineText, PlainFieldText, PlainMethodText, PlainClassText}
+use Rattle.jasmin_lines.specs.declared.class_text.Operand.{Operand}
+use Rattle.jasmin_lines.specs.declared.class_text.Operand.TheVariants as operand
+use Rattle.jasmin_lines.specs.declared.class_text.NameAt.{NameAt}
+use Rattle.jasmin_lines.specs.declared.class_text.CatchText.{CatchText}
+use Rattle.jasmin_lines.specs.declared.form.Form.{Form}
+use Rattle.jasmin_lines.specs.declared.form.Form.TheVariants as form
+use Rattle.jasmin_lines.specs.declared.lexeme.Lexeme.{Lexeme}
+use Rattle.jasmin_lines.specs.declared.lexeme.Lexeme.TheVariants as lexeme
+use Rattle.jasmin_lines.specs.Directives.{empty_class}
+use Rattle.jasmin_lines.specs.Plain.{PlainLineText, PlainFieldText, PlainMethodText, PlainClassText}
 use Rattle.jasmin_writer.specs.Canonical.{spaced_operand, spaced_word, label_line, code_lines, catch_line, limit_line, begun, method_head, method_limits, method_body, method_lines, value_text, field_line, name_line, implements_line, members, class_lines, class_text, canonical}
 use Rattle.text_laws.specs.Spelled.{spaced, spelled_line, spelled}
 use Rattle.text_laws.proofs.CanonicalForms.{word, operand_word, value_words, words_of, written, unlabelled, line_forms, stack_forms, locals_forms, label_forms, catch_forms, body_forms, limit_forms, head_form, method_forms, super_of, member_forms, named_forms, class_forms, forms_of}

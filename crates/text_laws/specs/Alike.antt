@@ -2,11 +2,11 @@
 use Rattle.std.specs.Prelude.{◌≡◌, ℕ, List, [], map, Ok}
 use Rattle.jasmin_text.specs.declared.token.Token.{Token}
 use Rattle.jasmin_text.specs.Texts.{tokens_of}
-use Rattle.jasmin_reader.specs.declared.class_text.NameAt.{NameAt}
-use Rattle.jasmin_reader.specs.declared.class_text.CatchText.{CatchText}
-use Rattle.jasmin_reader.specs.declared.lexeme.Lexeme.{Lexeme}
-use Rattle.jasmin_reader.specs.Lexemes.{lines_after}
-use Rattle.jasmin_reader.specs.Plain.{PlainLineText, PlainFieldText, PlainMethodText, PlainClassText}
+use Rattle.jasmin_lines.specs.declared.class_text.NameAt.{NameAt}
+use Rattle.jasmin_lines.specs.declared.class_text.CatchText.{CatchText}
+use Rattle.jasmin_lines.specs.declared.lexeme.Lexeme.{Lexeme}
+use Rattle.jasmin_lines.specs.Lexemes.{lines_after}
+use Rattle.jasmin_lines.specs.Plain.{PlainLineText, PlainFieldText, PlainMethodText, PlainClassText}
 use Rattle.jasmin_reader.specs.Reading.{reading}
 use Rattle.text_laws.specs.Spelled.{numbered}
 

@@ -3,16 +3,16 @@
 use Rattle.std.specs.Prelude.{◌≡◌, ◌≢◌, ◌≤◌, ◌<◌, ◌⊎◌, ℕ, Bool, true, false, List, [], ◌∷◌, ◌++◌, Contains, codes, bytes_eq, Ok}
 use Rattle.std.specs.List.{AllByRecursion, list_any}
 use Rattle.jasmin_text.specs.declared.token.Token.{Token}
-use Rattle.jasmin_reader.specs.declared.fault.ReadKind.{ReadKind}
-use Rattle.jasmin_reader.specs.declared.fault.ReadKind.TheVariants.{NoClass, OutsideMethod, InMethod, NoSuper, LabelTwice, EndMissing, Repeat}
+use Rattle.jasmin_lines.specs.declared.fault.ReadKind.{ReadKind}
+use Rattle.jasmin_lines.specs.declared.fault.ReadKind.TheVariants.{NoClass, OutsideMethod, InMethod, NoSuper, LabelTwice, EndMissing, Repeat}
 use Rattle.jasmin_reader.specs.declared.fault.Refusal.{Refusal}
-use Rattle.jasmin_reader.specs.declared.form.Form.{Form}
-use Rattle.jasmin_reader.specs.declared.form.Form.TheVariants as form
-use Rattle.jasmin_reader.specs.declared.lexeme.Lexeme.{Lexeme}
-use Rattle.jasmin_reader.specs.declared.lexeme.Lexeme.TheVariants as lexeme
-use Rattle.jasmin_reader.specs.Faults.{kind_number}
+use Rattle.jasmin_lines.specs.declared.form.Form.{Form}
+use Rattle.jasmin_lines.specs.declared.form.Form.TheVariants as form
+use Rattle.jasmin_lines.specs.declared.lexeme.Lexeme.{Lexeme}
+use Rattle.jasmin_lines.specs.declared.lexeme.Lexeme.TheVariants as lexeme
+use Rattle.jasmin_lines.specs.Faults.{kind_number}
 use Rattle.jasmin_reader.specs.Grammar.{PlainState, nothing_begun, next_state}
-use Rattle.jasmin_reader.specs.Lexemes.{PlainLine, lines_after}
+use Rattle.jasmin_lines.specs.Lexemes.{PlainLine, lines_after}
 use Rattle.jasmin_reader.specs.Reading.{last_line}
 use Rattle.text_laws.specs.LineFaults.{form_alone, form_if}
 use Rattle.text_laws.specs.WordRules.{IsSpoiled}

@@ -1,7 +1,7 @@
 -- What the words of a text's lines are like.
 use Rattle.std.specs.Prelude.{◌≡◌, Bool, true, false, List, [], ◌∷◌}
-use Rattle.jasmin_reader.specs.declared.lexeme.Lexeme.{Lexeme}
-use Rattle.jasmin_reader.specs.declared.lexeme.Lexeme.TheVariants as lexeme
+use Rattle.jasmin_lines.specs.declared.lexeme.Lexeme.{Lexeme}
+use Rattle.jasmin_lines.specs.declared.lexeme.Lexeme.TheVariants as lexeme
 use Rattle.text_laws.specs.Sizes.{IsSmall, is_quotable}
 use Rattle.text_laws.specs.Spelled.{IsPlainWord, BeginsNoComment}
 

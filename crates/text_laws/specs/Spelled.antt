@@ -4,10 +4,10 @@ use Rattle.std.specs.Fmt.{signed_decimal}
 use Rattle.std.specs.List.{list_any, flat_map, AllByRecursion}
 use Rattle.jasmin_text.specs.declared.token.TokenKind.TheVariants as token
 use Rattle.jasmin_text.specs.Pieces.{is_white, kind_of_word}
-use Rattle.jasmin_reader.specs.declared.lexeme.Lexeme.{Lexeme}
-use Rattle.jasmin_reader.specs.declared.lexeme.Lexeme.TheVariants as lexeme
+use Rattle.jasmin_lines.specs.declared.lexeme.Lexeme.{Lexeme}
+use Rattle.jasmin_lines.specs.declared.lexeme.Lexeme.TheVariants as lexeme
 use Rattle.jasmin_writer.specs.Canonical.{quoted}
-use Rattle.jasmin_reader.specs.Lexemes.{PlainLine}
+use Rattle.jasmin_lines.specs.Lexemes.{PlainLine}
 use Rattle.text_laws.specs.Sizes.{IsSmall, is_quotable}
 
 abbrev pub text_of : Lexeme → List ℕ

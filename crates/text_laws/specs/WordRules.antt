@@ -4,14 +4,14 @@
 use Rattle.std.specs.Prelude.{◌≡◌, ◌≢◌, ℕ, ◌-◌, Bool, true, false, ◌&&◌, ◌==◌, List, [], ◌∷◌, ◌++◌, Contains, codes, ℤ, pos, negsuc, int_le, Some}
 use Rattle.std.specs.List.{AllByRecursion, list_any}
 use Rattle.vm_model.specs.declared.limits.TheConstants.{MOST_LOCALS}
-use Rattle.jasmin_reader.specs.declared.fault.ReadKind.{ReadKind}
-use Rattle.jasmin_reader.specs.declared.fault.ReadKind.TheVariants.{BadDirective, BadMnemonic, BadOperand, BadName}
-use Rattle.jasmin_reader.specs.declared.lexeme.Lexeme.{Lexeme}
-use Rattle.jasmin_reader.specs.declared.lexeme.Lexeme.TheVariants as lexeme
-use Rattle.jasmin_reader.specs.declared.mnemonic.Mnemonic.{Mnemonic}
-use Rattle.jasmin_reader.specs.declared.mnemonic.Mnemonic.TheVariants as mnemonic
-use Rattle.jasmin_reader.specs.Mnemonics.{mnemonic_of}
-use Rattle.jasmin_reader.specs.Words.{is_name, is_class_name, is_method_name}
+use Rattle.jasmin_lines.specs.declared.fault.ReadKind.{ReadKind}
+use Rattle.jasmin_lines.specs.declared.fault.ReadKind.TheVariants.{BadDirective, BadMnemonic, BadOperand, BadName}
+use Rattle.jasmin_lines.specs.declared.lexeme.Lexeme.{Lexeme}
+use Rattle.jasmin_lines.specs.declared.lexeme.Lexeme.TheVariants as lexeme
+use Rattle.jasmin_lines.specs.declared.mnemonic.Mnemonic.{Mnemonic}
+use Rattle.jasmin_lines.specs.declared.mnemonic.Mnemonic.TheVariants as mnemonic
+use Rattle.jasmin_lines.specs.Mnemonics.{mnemonic_of}
+use Rattle.jasmin_lines.specs.Words.{is_name, is_class_name, is_method_name}
 
 -- ---- parts of a line
 

@@ -1,6 +1,7 @@
 // Texts that are read and written again, and texts that break the grammar, with the line that breaks it.
 use crate::texts::{classes_in, classes_of, joined};
-use jasmin_reader::{ClassText, MethodText, ReadFault, ReadKind};
+use jasmin_lines::{ClassText, MethodText, ReadKind};
+use jasmin_reader::ReadFault;
 use jasmin_writer::write_classes;
 use std::alloc::Global;
 use std::test::Fail;

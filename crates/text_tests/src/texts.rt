@@ -1,5 +1,6 @@
 // Texts put together from parts, and what is read of them.
-use jasmin_reader::{ClassText, ReadFault, read_classes};
+use jasmin_lines::ClassText;
+use jasmin_reader::{ReadFault, read_classes};
 use jasmin_text::tokens;
 use std::alloc::Global;
 use vm_model::NoMemory;

@@ -1,9 +1,0 @@
-use Rattle.std.proofs.Common.{◌≡◌, length}
-use Rattle.class_linker.specs.Names.{with_methods}
-use Rattle.class_linker.proofs.names.Names.add_methods.Given as goal
-
-abbrev pub invariant-loop-rest : goal.invariant-loop-rest
-invariant-loop-rest l = with_methods l.class l.rest l.counts l.self ≡ with_methods l.class l.methods l.initial.counts l.initial.self
-
-abbrev pub decreases-loop-rest : goal.decreases-loop-rest
-decreases-loop-rest l = length l.rest

@@ -1,0 +1,11 @@
+pub mod Plain
+pub mod Said
+pub mod Faults
+pub mod Texts
+pub mod Tables
+pub mod Lexemes
+pub mod Words
+pub mod Mnemonics
+pub mod Instructions
+pub mod Directives
+pub mod Forms

@@ -1,0 +1,6 @@
+-- The bytes that references point to.
+use Rattle.std.specs.Prelude.{ℕ, List, map}
+use denote.Ref.{Bor}
+
+abbrev pub texts : List (Bor (List ℕ)) → List (List ℕ)
+texts words = map (λ word. word.now) words

@@ -1,6 +1,0 @@
-use Rattle.jasmin_reader.specs.Mnemonics.{mnemonic_of, table}
-use Rattle.jasmin_reader.proofs.instructions.mnemonic_of.Goals as goal
-
-pub returns : goal.returns
-unfolding mnemonic_of table
-returns c = c.row_of.ensures
