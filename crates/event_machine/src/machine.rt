@@ -1,6 +1,7 @@
 ghost use Rattle.std.specs.Prelude.{map, ◌≡◌, ◌^◌, ◌+◌, ◌++◌, ◌∷◌, [], None, Some, ◌<◌, ◌≤◌, ℕ, find, true, false, IfOk, IfErr, OnOk, OnErr, IfNone, IfSome, IsTrue, length, not, ◌-◌, ◌==◌};
 ghost use Rattle.std.specs.List.{list_any, range_with_len};
 ghost use Rattle.std.specs.Option.{option_or};
+ghost use Rattle.vm_model.specs.declared.op.Entry.{Entry};
 ghost use Rattle.vm_model.specs.declared.limits.TheConstants.{MOST_EVENTS, MOST_THREADS};
 ghost use Rattle.vm_model.specs.Program.{PlainProgram};
 ghost use Rattle.machine_model.specs.Shared.{is_live};
@@ -16,7 +17,7 @@ use local_machine::Local;
 use shared_world::{World, start_of};
 use std::alloc::Global;
 use std::marker::Model;
-use vm_model::{End, Entry, Fault, NoMemory, Op, Plain};
+use vm_model::{End, Entry, Fault, NoMemory, Op, Plain, Reply};
 
 /// A machine that runs the threads of a program, one event at a time.
 #[derive(Drop)]
@@ -55,7 +56,7 @@ pub enum Next {
     Turns(u32),
 }
 
-/// Makes the next event, of a thread that asks for this operation.
+/// Makes the next event, of a thread that asks for this operation, and gives the reply.
 fn event_of(
     world: &mut World,
     locals: &mut Vec<Local>,
@@ -63,7 +64,7 @@ fn event_of(
     plain: &Plain,
     thread: u32,
     op: Op,
-) -> Result<Entry, NoMemory>
+) -> Result<Reply, NoMemory>
     requires whole { IsWhole plain.now world.old locals.old.items }
     requires asks { pending_at locals.old.items thread ≡ Some op }
     requires enabled { IsTrue (may_do world.old thread (Some op)) }
@@ -71,7 +72,7 @@ fn event_of(
     requires left { length world.old.history < world.old.budget }
     ensures turned { OnOk result (turn plain.now (machine_from world.old locals.old.items) thread ≡ Some (machine_from world.new locals.new.items)) }
     ensures whole { OnOk result (IsWhole plain.now world.new locals.new.items) }
-    ensures entry { IfOk result (λ e. (world.new.history ≡ world.old.history ++ e ∷ []) × (e.thread ≡ thread)) }
+    ensures entry { IfOk result (λ reply. world.new.history ≡ world.old.history ++ record { thread = thread; op = op; reply = reply } ∷ []) }
     ensures history { IsHistory plain.now world.new.history }
     ensures budget { world.new.budget ≡ world.old.budget }
     ensures memory { OnErr result (AddsAtMostOne world.old.history thread world.new.history) }
@@ -81,7 +82,7 @@ fn event_of(
     };
     go_on(locals, alloc, plain, thread as usize, reply)?;
     start(locals, alloc, plain, op, reply)?;
-    Ok(Entry { thread, op, reply })
+    Ok(reply)
 }
 
 /// The threads' own entries are those of one run. There is nothing to look at.
@@ -454,19 +455,19 @@ impl Machine {
             return Err(TurnFault::Over);
         }
         match self.event(alloc, plain, thread, op) {
-            Ok(entry) => Ok(entry),
+            Ok(reply) => Ok(Entry { thread, op, reply }),
             Err(_) => Err(TurnFault::NoMemory),
         }
     }
 
-    /// Makes the next event, of a thread that is enabled in a machine without an end, and gives it. `next` answers such a
-    /// thread. After `NoMemory` the history is still that of a run, and no further event can be made.
-    pub fn make(&mut self, alloc: Global, plain: &Plain, thread: u32) -> Result<Entry, NoMemory>
+    /// Makes the next event, of a thread that is enabled in a machine without an end. `next` answers such a thread. After
+    /// `NoMemory` the history is still that of a run, and no further event can be made.
+    pub fn make(&mut self, alloc: Global, plain: &Plain, thread: u32) -> Result<(), NoMemory>
         requires own { IsMachineOf plain.now self.old }
         requires whole { self.old.is_broken ≡ false }
         requires open { end_of plain.now (machine_of self.old) self.old.world.budget ≡ None }
         requires enabled { is_enabled plain.now (machine_of self.old) thread ≡ true }
-        ensures ok { IfOk result (λ e. Turned plain.now self.old thread e self.new) }
+        ensures ok { OnOk result ((e : Entry) × Turned plain.now self.old thread e self.new) }
         ensures own { IsMachineOf plain.now self.new }
         ensures whole { OnOk result (self.new.is_broken ≡ false) }
         ensures memory { OnErr result (BreaksOff self.old thread self.new) }
@@ -475,30 +476,31 @@ impl Machine {
         let Some(op) = self.operation(thread) else {
             unreachable!()
         };
-        self.event(alloc, plain, thread, op)
+        self.event(alloc, plain, thread, op)?;
+        Ok(())
     }
 
-    /// Makes the next event, of a thread that asks for this operation, which is enabled.
+    /// Makes the next event, of a thread that asks for this operation, which is enabled, and gives the reply.
     fn event(
         &mut self,
         alloc: Global,
         plain: &Plain,
         thread: u32,
         op: Op,
-    ) -> Result<Entry, NoMemory>
+    ) -> Result<Reply, NoMemory>
         requires whole { IsWhole plain.now self.old.world self.old.locals }
         requires asks { pending_at self.old.locals thread ≡ Some op }
         requires enabled { IsTrue (may_do self.old.world thread (Some op)) }
         requires open { self.old.world.shared.fault ≡ None }
         requires left { length self.old.world.history < self.old.world.budget }
-        ensures ok { IfOk result (λ e. Turned plain.now self.old thread e self.new) }
+        ensures ok { IfOk result (λ reply. Turned plain.now self.old thread (record { thread = thread; op = op; reply = reply }) self.new) }
         ensures own { IsMachineOf plain.now self.new }
         ensures whole { OnOk result (self.new.is_broken ≡ false) }
         ensures memory { OnErr result (BreaksOff self.old thread self.new) }
     {
         self.is_broken = true;
-        let entry = event_of(&mut self.world, &mut self.locals, alloc, plain, thread, op)?;
+        let reply = event_of(&mut self.world, &mut self.locals, alloc, plain, thread, op)?;
         self.is_broken = false;
-        Ok(entry)
+        Ok(reply)
     }
 }

@@ -55,9 +55,8 @@ reached-stopped p l steps r e asks =
     }
 
 -- at a wait
-pub reached-waiting : (p : PlainProgram) (f g : Frame) (below below' : List Frame) (l : Lock) (k steps : ℕ) (a : Acted) (r : Ready) → g ≡ f → below' ≡ below → a ≡ acted_of (action p f) → r.op ≡ Some (op.Resume l k) → completion_of r.completion ≡ completion_with p a g → IsReached p (Running (f ∷ below) (Waiting l k)) steps (Running (g ∷ below') (Waiting l k)) steps (Some r)
-reached-waiting p f g below below' l k steps a r e same q o c =
-    let asks : IsAskedBy p (Running (f ∷ below) (Waiting l k)) (Some r) =
-    (refl, o, c ∙ ap (λ (x : Frame). completion_with p a x) e ∙ ap (λ (x : Acted). completion_with p x f) q) in
+pub reached-waiting : (p : PlainProgram) (f g : Frame) (below below' : List Frame) (l : Lock) (k steps : ℕ) (r : Ready) → g ≡ f → below' ≡ below → r.op ≡ Some (op.Resume l k) → completion_of r.completion ≡ completion_with p (acted_of (action p f)) f → IsReached p (Running (f ∷ below) (Waiting l k)) steps (Running (g ∷ below') (Waiting l k)) steps (Some r)
+reached-waiting p f g below below' l k steps r e same o c =
+    let asks : IsAskedBy p (Running (f ∷ below) (Waiting l k)) (Some r) = (refl, o, c) in
     let there = reached-stopped p (Running (f ∷ below) (Waiting l k)) steps (Some r) refl asks in
     subst (λ (fs : List Frame). IsReached p (Running (f ∷ below) (Waiting l k)) steps (Running fs (Waiting l k)) steps (Some r)) (ap (λ (x : Frame). x ∷ below) (sym e) ∙ ap (λ (fs : List Frame). g ∷ fs) (sym same)) there

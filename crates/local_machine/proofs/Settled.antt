@@ -1,5 +1,5 @@
 -- The settled state, step by step.
-use Rattle.std.proofs.Common.{◌≡◌, ◌≢◌, ℕ, zero, suc, ◌+◌, ◌-◌, ◌<◌, ◌≤◌, Bool, true, false, List, ◌∷◌, Some, None, refl, sym, ◌∙◌, ap, subst, arith}
+use Rattle.std.proofs.Common.{◌≡◌, ◌≢◌, ℕ, zero, suc, ◌+◌, ◌-◌, ◌<◌, ◌≤◌, Bool, true, false, List, ◌∷◌, Some, None, refl, sym, ◌∙◌, ap, subst, arith, inl, inr, ◌⊎◌}
 use Rattle.vm_model.specs.Program.{PlainProgram}
 use Rattle.machine_model.specs.Frames.{Frame, LocalState, Running, Plain}
 use Rattle.machine_model.specs.Effect.{action}
@@ -9,7 +9,7 @@ use Rattle.local_machine.specs.declared.acted.Acted.TheVariants as acted
 use Rattle.local_machine.specs.Acts.{acted_of, after}
 use Rattle.local_machine.specs.Further.{after_steps, one_step_more}
 use Rattle.local_machine.specs.LocalView.{one_more, steps_within}
-use Rattle.local_machine.specs.Steps.{IsFollowed, IsOnTheWay, IsSettled, followed}
+use Rattle.local_machine.specs.Steps.{IsFollowed, IsOnTheWay, IsSettled, IsTried, IsWalked, LeadsOn, followed}
 use Rattle.local_machine.proofs.Moved.{frame-stays, no_goes, step_is}
 
 pub settled-zero : (p : PlainProgram) (n : ℕ) (l : LocalState) → n ≡ 0 → settled_within p n l ≡ l
@@ -135,3 +135,57 @@ settled-unmade p old h f g k below below' steps s x true w e q t m step = cc
 settled-unmade p old h f g k below below' steps s x false w e q t m step =
     let kept = frame-stays (action p f) f g x q t (no_goes p g below x step.0) ∙ e in
     settled-stays p old h k below below' steps s x w (local_step-is p h f g below x e q t ∙ step.0) (step.1 ∙ ap (λ (i : Frame). i ∷ below) kept) (q ∙ ap (λ (i : Frame). acted_of (action p i)) e)
+
+-- ---- within one frame
+
+-- one step more of the frame alone
+pub leads-made : (p : PlainProgram) (f h g i : Frame) (now s : ℕ) (x : Acted) → LeadsOn p f now h s → s < 4096 → g ≡ h → x ≡ acted_of (action p g) → i ≡ after (action p g) g → x ≡ acted.Goes → LeadsOn p f now i (s + 1)
+leads-made p f h g i now s x w few e q t goes = λ old steps below on.
+    on_the_way-made p old h g i below (i ∷ below) steps s x true (w old steps below on) few e q t refl (ap (λ (y : Acted). followed p y i below) goes)
+
+pub leads-stays : (p : PlainProgram) (f h g : Frame) (now s : ℕ) → LeadsOn p f now h s → g ≡ h → LeadsOn p f now g s
+leads-stays p f h g now s w e = subst (λ (i : Frame). LeadsOn p f now i s) (sym e) w
+
+-- Where one step was left, none was made yet, or the instruction of the frame f made it.
+abbrev pub IsTrying : PlainProgram → Frame → ℕ → Frame → ℕ → Type 0
+IsTrying p f now h s = now + 1 ≡ 4096 → ((s ≡ now) × (h ≡ f)) ⊎ ((s ≡ 4096) × (acted.Goes ≡ acted_of (action p f)) × (h ≡ after (action p f) f))
+
+pub trying-made : (p : PlainProgram) (f h g i : Frame) (now s : ℕ) (x : Acted) → IsTrying p f now h s → s < 4096 → g ≡ h → x ≡ acted_of (action p g) → i ≡ after (action p g) g → x ≡ acted.Goes → IsTrying p f now i (s + 1)
+trying-made p f h g i now s x w few e q t goes = λ one.
+    elim (w one) [
+      | inl none ↦ inr (
+        omega (arith, one, none.0),
+        sym goes ∙ q ∙ ap (λ (k : Frame). acted_of (action p k)) (e ∙ none.1),
+        t ∙ ap (λ (k : Frame). after (action p k) k) (e ∙ none.1),
+      )
+      | inr made ↦ absurd (omega (arith, made.0))
+    ]
+
+pub tried-stopped : (p : PlainProgram) (f h g i : Frame) (now s : ℕ) (x : Acted) → IsTrying p f now h s → s < 4096 → g ≡ h → x ≡ acted_of (action p g) → i ≡ after (action p g) g → IsTried p f now i x
+tried-stopped p f h g i now s x w few e q t = λ one.
+    elim (w one) [
+      | inl none ↦ (
+        q ∙ ap (λ (k : Frame). acted_of (action p k)) (e ∙ none.1),
+        t ∙ ap (λ (k : Frame). after (action p k) k) (e ∙ none.1),
+      )
+      | inr made ↦ absurd (omega (arith, made.0))
+    ]
+
+pub tried-ended : (p : PlainProgram) (f h : Frame) (now s : ℕ) → IsTrying p f now h s → 4096 ≤ s → IsTried p f now h acted.Goes
+tried-ended p f h now s w many = λ one.
+    elim (w one) [
+      | inl none ↦ absurd (omega (arith, one, none.0))
+      | inr made ↦ (made.1, made.2)
+    ]
+
+-- the instruction makes no step of the frame alone
+pub walked-stopped : (p : PlainProgram) (g i : Frame) (s : ℕ) (x : Acted) → s < 4096 → x ≢ acted.Goes → x ≡ acted_of (action p g) → i ≡ g → IsWalked p i s x
+walked-stopped p g i s x few n q e = inr (few, n, q ∙ ap (λ (k : Frame). acted_of (action p k)) (sym e))
+
+-- The frame's own steps were walked, and some are left: its instruction makes none, so it stays.
+pub walked-waits : (p : PlainProgram) (g : Frame) (s : ℕ) (a : Acted) → IsWalked p g s a → s ≢ 4096 → (s < 4096) × (a ≡ acted_of (action p g)) × (g ≡ after (action p g) g)
+walked-waits p g s a w left =
+    elim w [
+      | inl all ↦ absurd (left all.0)
+      | inr rest ↦ (rest.0, rest.2, sym (frame-stays (action p g) g (after (action p g) g) a rest.2 refl rest.1))
+    ]

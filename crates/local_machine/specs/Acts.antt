@@ -1,4 +1,5 @@
 -- What the code says of an action, and what an action leaves of the frame.
+use Rattle.std.specs.Prelude.{Bool, true, false}
 use Rattle.machine_model.specs.Frames as model
 use Rattle.machine_model.specs.Operands.{Action, Goes, Calls, Gives, Asks, Fails, Undefined}
 use Rattle.local_machine.specs.declared.frame.Frame.{Frame}
@@ -17,6 +18,11 @@ acted_of (Gives given) = acted.Gives given
 acted_of (Asks o n) = acted.Asks o n
 acted_of (Fails kind) = acted.Fails kind
 acted_of Undefined = acted.Undefined
+
+-- what an instruction does that is done, or that missed an operand
+abbrev pub goes_if : Bool → Acted
+goes_if true = acted.Goes
+goes_if false = acted.Undefined
 
 -- the frame that a step of the thread alone leaves; every other action leaves the frame as it is
 abbrev pub after : Action → model.Frame → model.Frame

@@ -26,7 +26,7 @@ abbrev pub completion_of : Completion → completions.Completion
 completion_of code.Nothing = completions.Nothing
 completion_of code.Begins = completions.Begins
 completion_of (code.Takes n) = completions.Takes n
-completion_of (code.Calls n callee) = completions.Calls n (plain callee)
+completion_of (code.Calls n callee) = completions.Calls n (plain callee.value)
 completion_of (code.Gives given) = completions.Gives given
 
 -- ---- room

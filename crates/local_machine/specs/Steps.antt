@@ -1,5 +1,5 @@
 -- What the code's steps are, by the definitions.
-use Rattle.std.specs.Prelude.{◌≡◌, ◌≤◌, ℕ, ◌+◌, ◌-◌, Bool, true, false, List, ◌∷◌, Option, Some, None}
+use Rattle.std.specs.Prelude.{◌≡◌, ◌≢◌, ◌<◌, ◌≤◌, ℕ, ◌+◌, ◌-◌, Bool, true, false, List, ◌∷◌, Option, Some, None, ◌⊎◌}
 use Rattle.vm_model.specs.declared.limits.TheConstants.{MOST_LOCAL_STEPS}
 use Rattle.vm_model.specs.Program.{PlainProgram}
 use Rattle.machine_model.specs.Frames.{Frame, LocalState, Running, Plain}
@@ -7,7 +7,7 @@ use Rattle.machine_model.specs.Effect.{action}
 use Rattle.machine_model.specs.LocalStep.{moved_back, moved_in, settled_within}
 use Rattle.local_machine.specs.declared.acted.Acted.{Acted}
 use Rattle.local_machine.specs.declared.acted.Acted.TheVariants as acted
-use Rattle.local_machine.specs.Acts.{acted_of}
+use Rattle.local_machine.specs.Acts.{acted_of, after}
 use Rattle.local_machine.specs.Further.{after_steps}
 use Rattle.local_machine.specs.LocalView.{steps_within}
 
@@ -38,3 +38,16 @@ pub record IsSettled (p : PlainProgram) (old : LocalState) (steps : ℕ) (f : Fr
   pub count : steps' ≡ steps + steps_within p (MOST_LOCAL_STEPS - steps) old
   pub acted : a ≡ acted_of (action p f)
   pub way : IsOnTheWay p old steps (Running (f ∷ below) Plain) steps'
+
+-- What leads to the frame f after so many steps leads on to the frame g, whatever is below.
+abbrev pub LeadsOn : PlainProgram → Frame → ℕ → Frame → ℕ → Type 0
+LeadsOn p f now g then =
+    (old : LocalState) (steps : ℕ) (below : List Frame) → IsOnTheWay p old steps (Running (f ∷ below) Plain) now → IsOnTheWay p old steps (Running (g ∷ below) Plain) then
+
+-- The instruction of the frame g makes no step of the frame alone, and this is what it does; or all steps were made.
+abbrev pub IsWalked : PlainProgram → Frame → ℕ → Acted → Type 0
+IsWalked p g steps a = ((steps ≡ MOST_LOCAL_STEPS) × (a ≡ acted.Goes)) ⊎ ((steps < MOST_LOCAL_STEPS) × (a ≢ acted.Goes) × (a ≡ acted_of (action p g)))
+
+-- where one step was left, the instruction of the frame f did this, and left the frame g
+abbrev pub IsTried : PlainProgram → Frame → ℕ → Frame → Acted → Type 0
+IsTried p f steps g a = steps + 1 ≡ MOST_LOCAL_STEPS → (a ≡ acted_of (action p f)) × (g ≡ after (action p f) f)

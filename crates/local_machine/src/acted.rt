@@ -1,4 +1,7 @@
 // What an instruction does.
+ghost use Rattle.std.specs.Prelude.{◌≡◌};
+ghost use Rattle.local_machine.specs.Acts.{goes_if};
+
 use vm_model::{FaultKind, Lock, Op, Value};
 
 /// What an instruction does to the frame that stands at it.
@@ -15,4 +18,11 @@ pub enum Acted {
     Fails(FaultKind),
     /// An operand is missing or of another kind, which verified code never meets.
     Undefined,
+}
+
+/// What an instruction does that is done, or that missed an operand.
+pub fn goes_if(done: bool) -> Acted
+    ensures { result ≡ goes_if done }
+{
+    if done { Acted::Goes } else { Acted::Undefined }
 }

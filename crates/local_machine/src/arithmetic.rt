@@ -45,7 +45,8 @@ pub fn of_two_numbers(frame: &mut Frame, program: &Program, instr: Instr) -> Act
         Instr::Ixor => x ^ y,
         _ => unreachable!(),
     };
-    frame.put_int(2, made)
+    frame.put_int(2, made);
+    Acted::Goes
 }
 
 /// Makes a number of one, or of an array (JVMS SE 8 §6.5 `ineg`, `arraylength`).
@@ -59,11 +60,17 @@ pub fn of_one(frame: &mut Frame, program: &Program, instr: Instr) -> Acted
 {
     match instr {
         Instr::Ineg => match frame.stack.peek_int(0) {
-            Some(y) => frame.put_int(1, y.wrapping_neg()),
+            Some(y) => {
+                frame.put_int(1, y.wrapping_neg());
+                Acted::Goes
+            }
             None => Acted::Undefined,
         },
         Instr::ArrayLength => match frame.stack.peek(0) {
-            Some(Value::Arr { len, .. }) => frame.put_int(1, len.cast_signed()),
+            Some(Value::Arr { len, .. }) => {
+                frame.put_int(1, len.cast_signed());
+                Acted::Goes
+            }
             Some(Value::Null) => Acted::Fails(FaultKind::NullPointer),
             _ => Acted::Undefined,
         },

@@ -98,14 +98,18 @@ pub fn construct(frame: &mut Frame, program: &Program, instr: Instr) -> Acted
 {
     match instr {
         Instr::Init { text: true, .. } => match frame.stack.pair() {
-            (Some(Value::Obj { .. }), Some(_)) | (Some(Value::Arr { .. }), Some(_)) => frame.take(
-                2,
-            ),
+            (Some(Value::Obj { .. }), Some(_)) | (Some(Value::Arr { .. }), Some(_)) => {
+                frame.take(2);
+                Acted::Goes
+            }
             (Some(Value::Null), Some(_)) => Acted::Fails(FaultKind::NullPointer),
             _ => Acted::Undefined,
         },
         Instr::Init { text: false, .. } => match frame.stack.peek(0) {
-            Some(Value::Obj { .. }) | Some(Value::Arr { .. }) => frame.take(1),
+            Some(Value::Obj { .. }) | Some(Value::Arr { .. }) => {
+                frame.take(1);
+                Acted::Goes
+            }
             Some(Value::Null) => Acted::Fails(FaultKind::NullPointer),
             _ => Acted::Undefined,
         },

@@ -11,7 +11,7 @@ pub enum Completion {
     /// So many operands go, the value of the reply comes, and the next instruction is reached.
     Takes(usize),
     /// So many operands go, and this frame is put on top.
-    Calls(usize, Frame),
+    Calls(usize, Box<Frame>),
     /// The frame gives back this value or none.
     Gives(Option<Value>),
 }

@@ -35,7 +35,9 @@ pub fn copy_completion(alloc: Global, completion: &Completion) -> Result<Complet
         Completion::Begins => Ok(Completion::Begins),
         Completion::Takes(taken) => Ok(Completion::Takes(*taken)),
         Completion::Calls(taken, callee) => {
-            let callee = callee.copy(alloc)?;
+            let Ok(callee) = Box::new(alloc, callee.copy(alloc)?) else {
+                return Err(NoMemory);
+            };
             Ok(Completion::Calls(*taken, callee))
         }
         Completion::Gives(given) => Ok(Completion::Gives(*given)),

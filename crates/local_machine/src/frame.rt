@@ -1,10 +1,9 @@
 // A frame, and the ways in which an instruction of the thread alone changes it.
 ghost use Rattle.std.specs.Prelude.{◌≡◌, ◌+◌, ◌<◌, ◌≤◌, ◌^◌, ◌∷◌, length, drop, slice_get, IfOk, OnOk};
 ghost use Rattle.machine_model.specs.Operands.{next, branch, store, on_local, int_in, Goes};
-ghost use Rattle.local_machine.specs.Acts.{plain, acted_of, after};
+ghost use Rattle.local_machine.specs.Acts.{plain, acted_of, after, goes_if};
 ghost use Rattle.local_machine.specs.Fields.{HasRoom};
 
-use crate::acted::Acted;
 use crate::stack::Stack;
 use std::alloc::Global;
 use vm_model::{Lock, NoMemory, Value};
@@ -49,46 +48,40 @@ impl Frame {
     }
 
     /// Takes so many operands, and goes on to the next place.
-    pub fn take(&mut self, taken: usize) -> Acted
+    pub fn take(&mut self, taken: usize)
         requires { self.old.place < 2 ^ 31 }
-        ensures acted { result ≡ Acted.Goes }
         ensures room { self.old.stack.room ≤ self.new.stack.room }
         ensures frame { plain self.new ≡ next (plain self.old) (drop taken self.old.stack.values) }
     {
         self.stack.remove(taken);
         self.place += 1;
-        Acted::Goes
     }
 
     /// Takes so many operands, puts a value on top, and goes on to the next place.
-    pub fn put(&mut self, taken: usize, value: Value) -> Acted
+    pub fn put(&mut self, taken: usize, value: Value)
         requires place { self.old.place < 2 ^ 31 }
         requires room { length self.old.stack.values < self.old.stack.room }
-        ensures acted { result ≡ Acted.Goes }
         ensures room { self.old.stack.room ≤ self.new.stack.room }
         ensures frame { plain self.new ≡ next (plain self.old) (value ∷ drop taken self.old.stack.values) }
     {
         self.stack.remove(taken);
         self.stack.push(value);
         self.place += 1;
-        Acted::Goes
     }
 
     /// Takes so many operands, puts a number on top, and goes on to the next place.
-    pub fn put_int(&mut self, taken: usize, number: i32) -> Acted
+    pub fn put_int(&mut self, taken: usize, number: i32)
         requires place { self.old.place < 2 ^ 31 }
         requires room { length self.old.stack.values < self.old.stack.room }
-        ensures acted { result ≡ Acted.Goes }
         ensures room { self.old.stack.room ≤ self.new.stack.room }
         ensures frame { plain self.new ≡ next (plain self.old) (Value.Int number ∷ drop taken self.old.stack.values) }
     {
-        self.put(taken, Value::Int(number))
+        self.put(taken, Value::Int(number));
     }
 
     /// Takes so many operands, and goes on to that place where the test holds, else to the next one.
-    pub fn branch(&mut self, taken: usize, holds: bool, to: u32) -> Acted
+    pub fn branch(&mut self, taken: usize, holds: bool, to: u32)
         requires { self.old.place < 2 ^ 31 }
-        ensures acted { result ≡ Acted.Goes }
         ensures room { self.old.stack.room ≤ self.new.stack.room }
         ensures frame { plain self.new ≡ branch holds (plain self.old) to (drop taken self.old.stack.values) }
     {
@@ -98,13 +91,12 @@ impl Frame {
         } else {
             self.place += 1;
         }
-        Acted::Goes
     }
 
-    /// Takes so many operands, writes a local, and goes on to the next place; undefined where there is no such local.
-    pub fn store(&mut self, taken: usize, local: u32, value: Value) -> Acted
+    /// Takes so many operands, writes a local, and goes on to the next place; false, and no change, where there is no such local.
+    pub fn store(&mut self, taken: usize, local: u32, value: Value) -> bool
         requires { self.old.place < 2 ^ 31 }
-        ensures acted { result ≡ acted_of (on_local (slice_get self.old.locals.items local) (λ _. Goes (store (plain self.old) local value (drop taken self.old.stack.values)))) }
+        ensures acted { goes_if result ≡ acted_of (on_local (slice_get self.old.locals.items local) (λ _. Goes (store (plain self.old) local value (drop taken self.old.stack.values)))) }
         ensures room { self.old.stack.room ≤ self.new.stack.room }
         ensures frame { plain self.new ≡ after (on_local (slice_get self.old.locals.items local) (λ _. Goes (store (plain self.old) local value (drop taken self.old.stack.values)))) (plain self.old) }
     {
@@ -113,16 +105,17 @@ impl Frame {
             self.stack.remove(taken);
             self.locals[local] = value;
             self.place += 1;
-            Acted::Goes
+            true
         } else {
-            Acted::Undefined
+            false
         }
     }
 
-    /// Takes so many operands, writes a number to a local, and goes on to the next place; undefined where there is no such local.
-    pub fn store_int(&mut self, taken: usize, local: u32, number: i32) -> Acted
+    /// Takes so many operands, writes a number to a local, and goes on to the next place; false, and no change, where there is no
+    /// such local.
+    pub fn store_int(&mut self, taken: usize, local: u32, number: i32) -> bool
         requires { self.old.place < 2 ^ 31 }
-        ensures acted { result ≡ acted_of (on_local (slice_get self.old.locals.items local) (λ _. Goes (store (plain self.old) local (Value.Int number) (drop taken self.old.stack.values)))) }
+        ensures acted { goes_if result ≡ acted_of (on_local (slice_get self.old.locals.items local) (λ _. Goes (store (plain self.old) local (Value.Int number) (drop taken self.old.stack.values)))) }
         ensures room { self.old.stack.room ≤ self.new.stack.room }
         ensures frame { plain self.new ≡ after (on_local (slice_get self.old.locals.items local) (λ _. Goes (store (plain self.old) local (Value.Int number) (drop taken self.old.stack.values)))) (plain self.old) }
     {

@@ -30,6 +30,7 @@ pub fn jump_of_one(frame: &mut Frame, program: &Program, instr: Instr) -> Acted
         Instr::Ifle(to) => frame.branch(1, y <= 0, to),
         _ => unreachable!(),
     }
+    Acted::Goes
 }
 
 /// Jumps where two numbers stand so to each other (JVMS SE 8 §6.5 `if_icmp<cond>`).
@@ -53,6 +54,7 @@ pub fn jump_of_two(frame: &mut Frame, program: &Program, instr: Instr) -> Acted
         Instr::IfIcmple(to) => frame.branch(2, x <= y, to),
         _ => unreachable!(),
     }
+    Acted::Goes
 }
 
 /// Jumps where references are null or one, or always (JVMS SE 8 §6.5 `if_acmp<cond>`, `ifnull`, `ifnonnull`, `goto`).
@@ -66,22 +68,37 @@ pub fn jump_of_references(frame: &mut Frame, program: &Program, instr: Instr) ->
 {
     match instr {
         Instr::IfAcmpeq(to) => match frame.stack.pair() {
-            (Some(v), Some(w)) => frame.branch(2, same_reference(v, w), to),
+            (Some(v), Some(w)) => {
+                frame.branch(2, same_reference(v, w), to);
+                Acted::Goes
+            }
             _ => Acted::Undefined,
         },
         Instr::IfAcmpne(to) => match frame.stack.pair() {
-            (Some(v), Some(w)) => frame.branch(2, !same_reference(v, w), to),
+            (Some(v), Some(w)) => {
+                frame.branch(2, !same_reference(v, w), to);
+                Acted::Goes
+            }
             _ => Acted::Undefined,
         },
         Instr::Ifnull(to) => match frame.stack.peek(0) {
-            Some(w) => frame.branch(1, is_null(w), to),
+            Some(w) => {
+                frame.branch(1, is_null(w), to);
+                Acted::Goes
+            }
             None => Acted::Undefined,
         },
         Instr::Ifnonnull(to) => match frame.stack.peek(0) {
-            Some(w) => frame.branch(1, !is_null(w), to),
+            Some(w) => {
+                frame.branch(1, !is_null(w), to);
+                Acted::Goes
+            }
             None => Acted::Undefined,
         },
-        Instr::Goto(to) => frame.branch(0, true, to),
+        Instr::Goto(to) => {
+            frame.branch(0, true, to);
+            Acted::Goes
+        }
         _ => unreachable!(),
     }
 }

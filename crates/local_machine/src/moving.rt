@@ -4,7 +4,7 @@ ghost use Rattle.machine_model.specs.Effect.{effect};
 ghost use Rattle.local_machine.specs.Acts.{plain, acted_of, after};
 ghost use Rattle.local_machine.specs.Families.{is_constant, is_of_local, is_order};
 
-use crate::acted::Acted;
+use crate::acted::{Acted, goes_if};
 use crate::frame::Frame;
 use vm_model::{Instr, Program, Value};
 
@@ -24,7 +24,8 @@ pub fn constant(frame: &mut Frame, program: &Program, instr: Instr) -> Acted
         Instr::Out => Value::Stream,
         _ => unreachable!(),
     };
-    frame.put(0, value)
+    frame.put(0, value);
+    Acted::Goes
 }
 
 /// Reads or writes a local (JVMS SE 8 §2.11.2).
@@ -38,23 +39,29 @@ pub fn of_local(frame: &mut Frame, program: &Program, instr: Instr) -> Acted
 {
     match instr {
         Instr::Iload(i) => match frame.int_local(i) {
-            Some(n) => frame.put_int(0, n),
+            Some(n) => {
+                frame.put_int(0, n);
+                Acted::Goes
+            }
             None => Acted::Undefined,
         },
         Instr::Istore(i) => match frame.stack.peek_int(0) {
-            Some(n) => frame.store_int(1, i, n),
+            Some(n) => goes_if(frame.store_int(1, i, n)),
             None => Acted::Undefined,
         },
         Instr::Aload(i) => match frame.local(i) {
-            Some(v) => frame.put(0, v),
+            Some(v) => {
+                frame.put(0, v);
+                Acted::Goes
+            }
             None => Acted::Undefined,
         },
         Instr::Astore(i) => match frame.stack.peek(0) {
-            Some(v) => frame.store(1, i, v),
+            Some(v) => goes_if(frame.store(1, i, v)),
             None => Acted::Undefined,
         },
         Instr::Iinc { local, by } => match frame.int_local(local) {
-            Some(n) => frame.store_int(0, local, n.wrapping_add(by)),
+            Some(n) => goes_if(frame.store_int(0, local, n.wrapping_add(by))),
             None => Acted::Undefined,
         },
         _ => unreachable!(),
@@ -71,17 +78,29 @@ pub fn order(frame: &mut Frame, program: &Program, instr: Instr) -> Acted
     ensures frame { plain frame.new ≡ after (effect program.now instr (plain frame.old)) (plain frame.old) }
 {
     match instr {
-        Instr::Nop => frame.take(0),
+        Instr::Nop => {
+            frame.take(0);
+            Acted::Goes
+        }
         Instr::Pop => match frame.stack.peek(0) {
-            Some(_) => frame.take(1),
+            Some(_) => {
+                frame.take(1);
+                Acted::Goes
+            }
             None => Acted::Undefined,
         },
         Instr::Pop2 => match frame.stack.pair() {
-            (Some(_), Some(_)) => frame.take(2),
+            (Some(_), Some(_)) => {
+                frame.take(2);
+                Acted::Goes
+            }
             _ => Acted::Undefined,
         },
         Instr::Dup => match frame.stack.peek(0) {
-            Some(v) => frame.put(0, v),
+            Some(v) => {
+                frame.put(0, v);
+                Acted::Goes
+            }
             None => Acted::Undefined,
         },
         Instr::DupX1 => match frame.stack.pair() {
@@ -89,7 +108,8 @@ pub fn order(frame: &mut Frame, program: &Program, instr: Instr) -> Acted
                 frame.stack.remove(2);
                 frame.stack.push(w);
                 frame.stack.push(v);
-                frame.put(0, w)
+                frame.put(0, w);
+                Acted::Goes
             }
             _ => Acted::Undefined,
         },
@@ -103,14 +123,16 @@ pub fn order(frame: &mut Frame, program: &Program, instr: Instr) -> Acted
                 frame.stack.push(w);
                 frame.stack.push(u);
                 frame.stack.push(v);
-                frame.put(0, w)
+                frame.put(0, w);
+                Acted::Goes
             }
             _ => Acted::Undefined,
         },
         Instr::Dup2 => match frame.stack.pair() {
             (Some(v), Some(w)) => {
                 frame.stack.push(v);
-                frame.put(0, w)
+                frame.put(0, w);
+                Acted::Goes
             }
             _ => Acted::Undefined,
         },
@@ -118,7 +140,8 @@ pub fn order(frame: &mut Frame, program: &Program, instr: Instr) -> Acted
             (Some(v), Some(w)) => {
                 frame.stack.remove(2);
                 frame.stack.push(w);
-                frame.put(0, v)
+                frame.put(0, v);
+                Acted::Goes
             }
             _ => Acted::Undefined,
         },

@@ -1,9 +1,10 @@
 // The way to the next operation.
-ghost use Rattle.std.specs.Prelude.{◌≡◌, ◌≤◌, length, true, IfOk, OnErr, vec_len, vec_capacity};
+ghost use Rattle.std.specs.Prelude.{◌≡◌, ◌≤◌, length, true, Some, IfOk, OnErr, vec_len, vec_capacity};
 ghost use Rattle.vm_model.specs.declared.limits.TheConstants.{MOST_LOCAL_STEPS, MOST_TEXT_BYTES};
 ghost use Rattle.vm_model.specs.Program.{IsSmall};
+ghost use Rattle.machine_model.specs.Effect.{action};
 ghost use Rattle.machine_model.specs.LocalStep.{entering as model_entering, fault_at as model_fault_at};
-ghost use Rattle.local_machine.specs.Acts.{plain};
+ghost use Rattle.local_machine.specs.Acts.{acted_of, plain};
 ghost use Rattle.local_machine.specs.Completions.{completion_with};
 ghost use Rattle.local_machine.specs.Fields.{AreAtCalls, HasRoomFor, Stands, callers, completion_of};
 ghost use Rattle.local_machine.specs.LocalView.{is_running};
@@ -78,6 +79,9 @@ fn prepare(
             let taken = arity_at(program, method);
             let arguments = top.stack.arguments(taken);
             let callee = first_frame(alloc, program, method, arguments, lock)?;
+            let Ok(callee) = Box::new(alloc, callee) else {
+                return Err(NoMemory);
+            };
             let Ok(()) = below.reserve(1) else {
                 return Err(NoMemory);
             };
@@ -103,6 +107,31 @@ fn prepare(
             completion: Completion::Nothing,
         }),
     }
+}
+
+/// What a thread asks for that waits on this lock, which it had entered so often, and what completes the instruction at which
+/// it waits, with the room that this takes.
+fn prepare_waiting(
+    alloc: Global,
+    program: &Program,
+    lock: Lock,
+    count: u32,
+    top: &mut Frame,
+    below: &mut Vec<Frame>,
+) -> Result<Ready, NoMemory>
+    requires small { IsSmall program.now }
+    requires few { length program.now.methods ≤ MOST_TEXT_BYTES }
+    ensures op { IfOk result (λ r. r.op ≡ Some (Op.Resume lock count)) }
+    ensures completion { IfOk result (λ r. completion_of r.completion ≡ completion_with program.now (acted_of (action program.now (plain top.old))) (plain top.old)) }
+    ensures room { IfOk result (λ r. HasRoomFor r.completion top.new below.new.items (vec_len below.new) (vec_capacity below.new)) }
+    ensures frame { plain top.new ≡ plain top.old }
+    ensures below { callers below.new.items ≡ callers below.old.items }
+{
+    let acted = look(alloc, program, top)?;
+    let ready = prepare(alloc, program, acted, top, below)?;
+    let op = Some(Op::Resume { lock, count });
+    let completion = ready.completion;
+    Ok(Ready { op, completion })
 }
 
 /// Brings a thread to its next operation, with the room that the reply will need; none where it is ended.
@@ -132,11 +161,8 @@ pub fn reach(
             Ok(Some(ready))
         }
         Phase::Waiting { lock, count } => {
-            let acted = look(alloc, program, top)?;
-            let ready = prepare(alloc, program, acted, top, below)?;
-            let op = Some(Op::Resume { lock, count });
-            let completion = ready.completion;
-            Ok(Some(Ready { op, completion }))
+            let ready = prepare_waiting(alloc, program, lock, count, top, below)?;
+            Ok(Some(ready))
         }
         Phase::Entering => {
             let op = entering(top.lock);

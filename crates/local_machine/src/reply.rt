@@ -72,7 +72,7 @@ pub fn complete(
             *phase = Phase::Plain;
         }
         Completion::Calls(taken, callee) => {
-            enter(callee, taken, top, below);
+            enter(Box::into_inner(callee), taken, top, below);
             *phase = Phase::Plain;
         }
         Completion::Gives(given) => {

@@ -51,10 +51,7 @@ impl Stack {
         ensures values { self.new.values ≡ value ∷ self.old.values }
         ensures room { self.old.room ≤ self.new.room }
     {
-        match self.values.push(value) {
-            Ok(()) => {}
-            Err(_) => unreachable!(),
-        }
+        self.values.push_reserved(value);
     }
 
     /// How many operands there are.

@@ -7,7 +7,7 @@ ghost use Rattle.machine_model.specs.Effect.{action};
 ghost use Rattle.machine_model.specs.LocalStep.{call_frames};
 ghost use Rattle.local_machine.specs.Acts.{plain, acted_of, after};
 ghost use Rattle.local_machine.specs.Fields.{AreAtCalls, HasRoom, Stands, StandsUnless, callers, frames_of};
-ghost use Rattle.local_machine.specs.Steps.{IsFollowed, IsOnTheWay, IsSettled, followed};
+ghost use Rattle.local_machine.specs.Steps.{IsFollowed, IsOnTheWay, IsSettled, IsTried, IsWalked, LeadsOn, followed};
 
 use crate::acted::Acted;
 use crate::acting::act;
@@ -94,6 +94,30 @@ fn follow(
     }
 }
 
+/// Makes steps of this frame alone until its instruction makes none, or until `MOST_LOCAL_STEPS` were made since the last
+/// reply. It answers what the instruction does then, which is not done yet, or `Goes` where so many steps were made.
+fn walk(frame: &mut Frame, program: &Program, steps: &mut u32) -> Result<Acted, NoMemory>
+    requires small { IsSmall program.now }
+    requires few { length program.now.methods ≤ MOST_TEXT_BYTES }
+    requires steps { steps.old ≤ MOST_LOCAL_STEPS }
+    ensures ok { IfOk result (λ acted. IsWalked program.now (plain frame.new) steps.new acted) }
+    ensures stands { IfOk result (λ acted. Stands acted frame.new) }
+    ensures way { LeadsOn program.now (plain frame.old) steps.old (plain frame.new) steps.new }
+    ensures tried { IfOk result (λ acted. IsTried program.now (plain frame.old) steps.old (plain frame.new) acted) }
+    ensures more { steps.old ≤ steps.new }
+    ensures steps { steps.new ≤ MOST_LOCAL_STEPS }
+{
+    while *steps < MOST_LOCAL_STEPS {
+        frame.reserve()?;
+        let acted = act_at_place(frame, program);
+        if !matches!(acted, Acted::Goes) {
+            return Ok(acted);
+        }
+        *steps += 1;
+    }
+    Ok(Acted::Goes)
+}
+
 /// What the instruction of the top frame does, which is not changed: the instruction is tried on a copy of it.
 pub fn look(alloc: Global, program: &Program, top: &mut Frame) -> Result<Acted, NoMemory>
     requires small { IsSmall program.now }
@@ -104,7 +128,8 @@ pub fn look(alloc: Global, program: &Program, top: &mut Frame) -> Result<Acted, 
 {
     top.reserve()?;
     let mut copy = top.copy(alloc)?;
-    Ok(act_at_place(&mut copy, program))
+    let mut steps = MOST_LOCAL_STEPS - 1;
+    walk(&mut copy, program, &mut steps)
 }
 
 /// Makes steps of the thread alone until there is none, or until `MOST_LOCAL_STEPS` were made since the last reply. It answers what the
@@ -126,13 +151,14 @@ pub fn settle(
     ensures steps { steps.new ≤ MOST_LOCAL_STEPS }
     ensures below { AreAtCalls (callers below.new.items) }
 {
-    while *steps < MOST_LOCAL_STEPS {
-        top.reserve()?;
-        let acted = act_at_place(top, program);
+    loop {
+        let acted = walk(top, program, steps)?;
+        if *steps == MOST_LOCAL_STEPS {
+            return look(alloc, program, top);
+        }
         if !follow(alloc, program, acted, top, below)? {
             return Ok(acted);
         }
         *steps += 1;
     }
-    look(alloc, program, top)
 }

@@ -49,6 +49,9 @@ impl Folding {
         ensures thread { self.new.thread ≡ self.old.thread }
         ensures intervals { self.new.intervals ≡ self.old.intervals }
     {
+        if self.intervals.len() < self.intervals.capacity() {
+            return Ok(());
+        }
         self.intervals.reserve(1)?;
         Ok(())
     }

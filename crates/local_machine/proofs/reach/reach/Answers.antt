@@ -31,16 +31,10 @@ waiting-on_the_way p ph l k top top' below below' steps at e q =
     (ap (λ (f : model.Frame). model.Running (f ∷ callers below') (model.Waiting l k)) e ∙ ap (λ (fs : List model.Frame). model.Running (plain top ∷ fs) (model.Waiting l k)) q) in
     subst (λ (s : model.LocalState). IsOnTheWay p (state_of ph top below) steps s steps) (sym same) (on_the_way_here p (state_of ph top below) steps)
 
-pub returns-in_err-acted-in-Waiting-clause-err : goal.returns-in_err-acted-in-Waiting-clause-err
-returns-in_err-acted-in-Waiting-clause-err c =
-    let below = c.args.below.now.items in
-    on_err c.from_residual-in_err-acted-in-Waiting.result
-    (waiting-on_the_way c.args.program.now c.args.phase c.in-Waiting.lock c.in-Waiting.count c.args.top.now c.look.new.top below below c.args.steps.now c.in-Waiting.is c.in_err-acted-in-Waiting.ensures.frame refl)
-
 pub returns-in_err-ready-in-Waiting-clause-err : goal.returns-in_err-ready-in-Waiting-clause-err
 returns-in_err-ready-in-Waiting-clause-err c =
     on_err c.from_residual-in_err-ready-in-Waiting.result
-    (waiting-on_the_way c.args.program.now c.args.phase c.in-Waiting.lock c.in-Waiting.count c.args.top.now c.look.new.top c.args.below.now.items c.prepare-in-Waiting.new.below.items c.args.steps.now c.in-Waiting.is c.in_ok-acted-in-Waiting.ensures.frame c.in_err-ready-in-Waiting.ensures.below)
+    (waiting-on_the_way c.args.program.now c.args.phase c.in-Waiting.lock c.in-Waiting.count c.args.top.now c.prepare_waiting.new.top c.args.below.now.items c.prepare_waiting.new.below.items c.args.steps.now c.in-Waiting.is c.in_err-ready-in-Waiting.ensures.frame c.in_err-ready-in-Waiting.ensures.below)
 
 pub returns-in_err-ready-in-Plain-clause-err : goal.returns-in_err-ready-in-Plain-clause-err
 returns-in_err-ready-in-Plain-clause-err c =
@@ -73,13 +67,12 @@ returns-in_ok-ready-in-Waiting-clause-ok c =
     let p = c.args.program.now in
     let top = c.args.top.now in
     let below = c.args.below.now.items in
-    let top' = c.look.new.top in
-    let below' = c.prepare-in-Waiting.new.below.items in
+    let top' = c.prepare_waiting.new.top in
+    let below' = c.prepare_waiting.new.below.items in
     let steps = c.args.steps.now in
-    let a = c.in_ok-acted-in-Waiting.acted in
-    let r : Ready = record { op = Some (op.Resume c.in-Waiting.lock c.in-Waiting.count); completion = c.in_ok-ready-in-Waiting.ready.completion } in
-    let there = reached-waiting p (plain top) (plain top') (callers below) (callers below') c.in-Waiting.lock c.in-Waiting.count steps a r c.in_ok-acted-in-Waiting.ensures.frame c.in_ok-ready-in-Waiting.ensures.below c.in_ok-acted-in-Waiting.ensures.acted refl c.in_ok-ready-in-Waiting.ensures.completion in
-    subst (λ (ph : Phase). IsReached p (state_of ph top below) steps (state_of ph top' below') steps (Some r)) (sym c.in-Waiting.is) there
+    let asks = c.in_ok-ready-in-Waiting.ensures in
+    let there = reached-waiting p (plain top) (plain top') (callers below) (callers below') c.in-Waiting.lock c.in-Waiting.count steps c.in_ok-ready-in-Waiting.ready asks.frame asks.below asks.op asks.completion in
+    subst (λ (ph : Phase). IsReached p (state_of ph top below) steps (state_of ph top' below') steps (Some c.in_ok-ready-in-Waiting.ready)) (sym c.in-Waiting.is) there
 
 pub returns-in-Entering-clause-ok : goal.returns-in-Entering-clause-ok
 returns-in-Entering-clause-ok c =

@@ -25,7 +25,7 @@ returns-clause-parts c =
     let part = c.index_mut-part.result.now in
     let low : c.args.thread < length parts = omega arith in
     let size : length (threads_of history) ≡ c.clock-clock.result = length-threads_of history ∙ sym (c.clock-clock.ensures.value ∙ ap (λ (w : WorldState). length w.history) c.world.ensures) in
-    let column = column-more c.args.plain.now (machine_of c.args.machine.now) (machine_of c.make.new.self) c.args.thread c.in_ok-make.ensures.ok.turned in
+    let column = column-more c.args.plain.now (machine_of c.args.machine.now) (machine_of c.make.new.self) c.args.thread c.in_ok-make.ensures.ok.1.turned in
     let noted = c.note.ensures.clocks ∙ ap (λ is. clocks is ++ c.clock-clock.result ∷ []) c.in_ok-reserve.ensures.intervals ∙ ap (λ (n : ℕ). clocks part.intervals ++ n ∷ []) (sym size) in
     let more = parts_note (threads_of history) parts c.args.thread part c.note.new.self c.requires.parts low c.index_mut-part.ensures.value (c.note.ensures.thread ∙ c.in_ok-reserve.ensures.thread) c.note.ensures.maximal noted in
     subst (λ (ts : List ℕ). AreParts ts (set parts c.args.thread c.note.new.self)) (sym column) more
