@@ -14,7 +14,7 @@ use Rattle.class_linker.specs.Linking.{linking}
 use Rattle.shape_laws.specs.Fitting.{is_made, is_of}
 use Rattle.shape_laws.proofs.Tests.{both}
 use Rattle.linking_laws.proofs.Statics.{Fits, statics_fit}
-use Rattle.linking_laws.proofs.Linkings.{Links, given}
+use Rattle.linking_laws.proofs.Linkings.{GivesByLinking, given}
 
 -- values that are of their kinds fit them
 all_fit : (p : PlainProgram) (slots : List StaticSlot) → Fits p slots → AllFit (declarations_of p) (map start_of_slot slots) (map kind_of_slot slots)
@@ -24,5 +24,5 @@ all_fit p (s ∷ slots) all = ((both (is_made s.start) (fits (declarations_of p)
 -- each static of a linked program begins with a value of its kind
 pub first_values_fit : (classes : List PlainClassText) (p : PlainProgram) → linking classes ≡ Ok p → FirstValuesFit (declarations_of p)
 first_values_fit classes p e =
-    let g : Links classes p = given classes p e in
+    let g : GivesByLinking classes p = given classes p e in
     record { statics = all_fit p p.statics (subst (λ (q : PlainProgram). Fits p q.statics) g.is (statics_fit p (names_of classes).1 32 classes)); heap = tt }

@@ -73,12 +73,12 @@ built_in_is name = by 0 built_in_classes
     by n (c ∷ cs) = ap (λ (o : Option ℕ). if bytes_eq name c.name then Some n else o) (by (n + 1) cs)
 
 -- a class of the text, its place in the text
-text_class : (classes : List PlainClassText) (p : PlainProgram) (name : List ℕ) → linkings.Links classes p → value_of name (names_of classes).1.classes ≡ class_of_text classes name
+text_class : (classes : List PlainClassText) (p : PlainProgram) (name : List ℕ) → linkings.GivesByLinking classes p → value_of name (names_of classes).1.classes ≡ class_of_text classes name
 unfolding names_of
 text_class classes p name g = class_numbers (names_of classes).1 name classes no_counts None no_names g.declared
 
 -- a class's number
-class_so : (classes : List PlainClassText) (p : PlainProgram) → linkings.Links classes p → (name : List ℕ) (n : ℕ) → class_of (names_of classes).1.classes name ≡ Some n → IsClass classes name n
+class_so : (classes : List PlainClassText) (p : PlainProgram) → linkings.GivesByLinking classes p → (name : List ℕ) (n : ℕ) → class_of (names_of classes).1.classes name ≡ Some n → IsClass classes name n
 class_so classes p g name n e = by (built_in_number name) refl e
   where
     by : (o : Option ℕ) → built_in_number name ≡ o → or_user (names_of classes).1.classes name o ≡ Some n → IsClass classes name n
@@ -167,13 +167,13 @@ all_few names [] few = tt
 all_few names (c ∷ cs) few = (omega (arith, fields_long names c.fields, few.0), all_few names cs few.1)
 
 -- what is few
-record FewOf (classes : List PlainClassText) : Type 0 where
+pub record FewOf (classes : List PlainClassText) : Type 0 where
   methods : length (methods_declared classes) ≤ 1024
   statics : length (statics_declared classes) ≤ 1024
   places : AllByRecursion (λ (c : PlainClassText). length (own_fields c) ≤ 64) classes
-  texts : length (texts_used classes) ≤ 16777216
+  pub texts : length (texts_used classes) ≤ 16777216
 
-few_of : (classes : List PlainClassText) (p : PlainProgram) → linkings.Links classes p → FewOf classes
+pub few_of : (classes : List PlainClassText) (p : PlainProgram) → linkings.GivesByLinking classes p → FewOf classes
 few_of classes p g = record {
   methods = methods;
   statics = omega (arith, slots_long names 32 classes, statics_counted names no_names classes no_counts None g.declared (omega arith));
@@ -197,7 +197,7 @@ few_of classes p g = record {
     methods = omega (arith, methods_long names thread_run texts.rows 32 classes, s.count, s.few)
 
 -- the number of each name is its place
-names_so : (classes : List PlainClassText) (p : PlainProgram) → AreNamed classes → AreWritten classes → linkings.Links classes p → NamesSo classes (names_of classes).1 (names_of classes).0.methods (texts_of classes).rows
+names_so : (classes : List PlainClassText) (p : PlainProgram) → AreNamed classes → AreWritten classes → linkings.GivesByLinking classes p → NamesSo classes (names_of classes).1 (names_of classes).0.methods (texts_of classes).rows
 unfolding names_of
 names_so classes p named written g = record {
   class = class_so classes p g;
@@ -233,7 +233,7 @@ linked_links classes p named written e = subst (Links classes) g.is (record {
   main_is = sym (main_place classes no_counts no_names (omega (arith, few.methods))) ∙ g.has_main;
 })
   where
-    g : linkings.Links classes p
+    g : linkings.GivesByLinking classes p
     g = given classes p e
 
     names : Names

@@ -46,16 +46,16 @@ gives names thread_run texts classes p e = by (classes_judged names classes no_c
     by None is None is_b (Some main) is_m h = record { declared = is; bodies = is_b; main = main; has_main = is_m; is = cc }
 
 -- the same with the names, the texts and the number of methods of these classes
-abbrev pub Links : List PlainClassText → PlainProgram → Type 0
-Links classes p = Gives (names_of classes).1 (names_of classes).0.methods (texts_of classes) classes p
+abbrev pub GivesByLinking : List PlainClassText → PlainProgram → Type 0
+GivesByLinking classes p = Gives (names_of classes).1 (names_of classes).0.methods (texts_of classes) classes p
 
 -- linking gives this program
-pub given : (classes : List PlainClassText) (p : PlainProgram) → linking classes ≡ Ok p → Links classes p
+pub given : (classes : List PlainClassText) (p : PlainProgram) → linking classes ≡ Ok p → GivesByLinking classes p
 unfolding linking
 given classes p e = gives (names_of classes).1 (names_of classes).0.methods (texts_of classes) classes p e
 
 -- the methods have the numbers of the names
-pub numbered : (known : Known) (classes : List PlainClassText) (p : PlainProgram) → AllKnown known classes → Links classes p
+pub numbered : (known : Known) (classes : List PlainClassText) (p : PlainProgram) → AllKnown known classes → GivesByLinking classes p
     → Numbered known (names_of classes).1 (methods_of (names_of classes).1 (names_of classes).0.methods (texts_of classes).rows 32 classes) (names_of classes).0 (names_of classes).1
 unfolding names_of
 numbered known classes p all g =
@@ -99,7 +99,7 @@ linked_is_few classes p e = subst IsFew g.is (record { short = all_both IsShortC
     methods : List PlainMethod
     methods = methods_of names thread_run texts.rows 32 classes
 
-    g : Links classes p
+    g : GivesByLinking classes p
     g = given classes p e
 
     s : Numbered Nothing names methods (names_of classes).0 names
@@ -128,7 +128,7 @@ linked_keep_limits classes p k m e there =
     methods : List PlainMethod
     methods = methods_of names thread_run (texts_of classes).rows 32 classes
 
-    g : Links classes p
+    g : GivesByLinking classes p
     g = given classes p e
 
     s : Numbered Nothing names methods (names_of classes).0 names

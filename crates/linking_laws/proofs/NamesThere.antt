@@ -14,7 +14,7 @@ use Rattle.class_linker.specs.Linking.{linking}
 use Rattle.shape_laws.specs.Linked.{MethodNamesWhatIsThere, NamesWhatIsThere}
 use Rattle.shape_laws.proofs.Tests.{all_both, on_right}
 use Rattle.linking_laws.proofs.Codes.{Numbers, code_there}
-use Rattle.linking_laws.proofs.Linkings.{Links, given}
+use Rattle.linking_laws.proofs.Linkings.{GivesByLinking, given}
 use Rattle.linking_laws.proofs.There.{next_above, next_within, user_there, whole_of, numbers}
 
 -- the methods of a class
@@ -54,7 +54,7 @@ linked_names_there classes p e = subst NamesWhatIsThere g.is (record {
     texts : PlainTexts
     texts = texts_of classes
 
-    g : Links classes p
+    g : GivesByLinking classes p
     g = given classes p e
 
     whole : PlainProgram

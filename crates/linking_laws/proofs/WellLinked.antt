@@ -26,7 +26,7 @@ use Rattle.linking_laws.proofs.Judged.{FineClass, JudgedClasses, classes_first}
 use Rattle.linking_laws.proofs.Keys.{Without, class_without_bracket, same_parts}
 use Rattle.linking_laws.proofs.Numbered.{none_some, some_same, Known, AllKnown, Numbered, OwnedAt, MainAt, next_number, there_before, behind_class, number_behind}
 use Rattle.linking_laws.proofs.Runs.{Has, run_added, names_behind}
-use Rattle.linking_laws.proofs.Linkings.{Links, given, numbered}
+use Rattle.linking_laws.proofs.Linkings.{GivesByLinking, given, numbered}
 use Rattle.linking_laws.proofs.There.{at_least, next_above, numbers}
 
 -- ---- methods
@@ -171,7 +171,7 @@ linked_is_well_linked classes p named e = subst IsWellLinked g.is (record {
     methods : List PlainMethod
     methods = methods_of names thread_run texts.rows 32 classes
 
-    g : Links classes p
+    g : GivesByLinking classes p
     g = given classes p e
 
     whole : PlainProgram

@@ -29,3 +29,7 @@ HasFewFields p = AllByRecursion (λ (c : PlainClass). length c.fields ≤ MOST_F
 
 abbrev pub HasShortTexts : PlainProgram → Type 0
 HasShortTexts p = AllByRecursion (λ (text : List ℕ). length text ≤ MOST_TEXT_CONSTANT_BYTES) p.texts
+
+-- no more than instructions of all methods, so that each text constant has a number of its own
+abbrev pub HasFewTexts : PlainProgram → Type 0
+HasFewTexts p = length p.texts ≤ 16777216

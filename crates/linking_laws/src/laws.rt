@@ -16,7 +16,7 @@ ghost use Rattle.name_resolver.specs.Names.{names_of};
 ghost use Rattle.class_linker.specs.Linked.{linked_by};
 ghost use Rattle.class_linker.specs.Linking.{linking};
 ghost use Rattle.shape_laws.specs.Linked.{IsWellLinked, NamesWhatIsThere};
-ghost use Rattle.linking_laws.specs.Limits.{KeepsLimits, HasFewClasses, HasFewFields, HasFewMethods, HasFewStatics, HasShortTexts};
+ghost use Rattle.linking_laws.specs.Limits.{KeepsLimits, HasFewClasses, HasFewFields, HasFewMethods, HasFewStatics, HasFewTexts, HasShortTexts};
 ghost use Rattle.linking_laws.specs.LinkFaults.{IsFirst, declaration_faults, body_faults, has_main, no_main};
 ghost use Rattle.linking_laws.specs.Named.{AreNamed, AreWritten};
 ghost use Rattle.linking_laws.specs.Links.{Links};
@@ -54,13 +54,15 @@ pub fn linked_methods_keep_limits()
 {}
 
 /// A linked program keeps the limits of a program as a whole: 256 classes, 1,024 methods and Thread's own `run`, 1,024
-/// statics, 64 fields of a class, and text constants of 200 bytes.
+/// statics, 64 fields of a class, and text constants of 200 bytes. It has at most as many of these as 1,024 methods have
+/// instructions: far fewer than are counted.
 pub fn linked_program_keeps_limits()
     ensures classes { (classes : List PlainClassText) (p : PlainProgram) → linking classes ≡ Ok p → HasFewClasses p }
     ensures methods { (classes : List PlainClassText) (p : PlainProgram) → linking classes ≡ Ok p → HasFewMethods p }
     ensures statics { (classes : List PlainClassText) (p : PlainProgram) → linking classes ≡ Ok p → HasFewStatics p }
     ensures fields { (classes : List PlainClassText) (p : PlainProgram) → linking classes ≡ Ok p → HasFewFields p }
     ensures texts { (classes : List PlainClassText) (p : PlainProgram) → linking classes ≡ Ok p → HasShortTexts p }
+    ensures numbers { (classes : List PlainClassText) (p : PlainProgram) → linking classes ≡ Ok p → HasFewTexts p }
 {}
 
 /// Linking gives the program of its classes: the classes with every name replaced by its number. The first law is on classes

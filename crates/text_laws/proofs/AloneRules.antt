@@ -19,7 +19,7 @@ use Rattle.jasmin_lines.specs.Words.{named, is_name}
 use Rattle.text_laws.specs.LineRules.{IsLeast, HasNone}
 use Rattle.text_laws.specs.WordRules.{directives, FollowsDirective, FollowsMnemonic, IsDotted, IsDirectiveLine, IsLabelLine, IsBareLine, HasInstruction, Bare, Labelled, BeginsWith, IsSpoiled, UnknownDirective, WrongWords, WrongName, UnknownMnemonic, WrongOperands, WrongOperandName, WrongLabel}
 use Rattle.text_laws.proofs.DirectiveAnswers.{directive-answers}
-use Rattle.text_laws.proofs.DirectiveRules.{DirectedSo, directed}
+use Rattle.text_laws.proofs.DirectiveRules.{DirectedAt, DirectedSo, directed}
 use Rattle.text_laws.proofs.FaultTests.{FaultAtMost, same-kind}
 use Rattle.text_laws.proofs.InstructionRules.{InstructedSo, instructed, instruction-answers, instruction-judged, same-word, no-word}
 use Rattle.text_laws.proofs.Labels.{form-start, label-is, colon}
@@ -79,7 +79,7 @@ label-so (b ∷ rest) label e =
     let p = ends-with b rest in
     p.2 ∙ colon-last p.0 label p.1 (ap label_of (sym p.2) ∙ e)
 
-data View (words : List Lexeme) : Type 0 where
+pub data View (words : List Lexeme) : Type 0 where
   Dots : (first : List ℕ) (rest : List Lexeme) → IsDirectiveLine words first rest → View words
   Labels : (label : List ℕ) (rest : List Lexeme) → IsLabelLine words label rest → View words
   Else : IsBareLine words → View words
@@ -103,7 +103,7 @@ bare-other w rest n = (
 nothing-first : (a : List ℕ) (xs : List Lexeme) → [] ≡ lexeme.Word a ∷ xs → ⊥
 nothing-first a xs e = cc
 
-view : (words : List Lexeme) → View words
+pub view : (words : List Lexeme) → View words
 view [] = Else ((λ (f : List ℕ) (r : List Lexeme) (h : IsDirectiveLine [] f r). nothing-first f r h.0), (λ (l : List ℕ) (r : List Lexeme) (h : IsLabelLine [] l r). nothing-first (colon l) r h.0))
 view (lexeme.Number n ∷ rest) = Else (bare-other (lexeme.Number n) rest (λ (a : List ℕ) (e : lexeme.Number n ≡ lexeme.Word a). absurd (cc)))
 view (lexeme.Text text ∷ rest) = Else (bare-other (lexeme.Text text) rest (λ (a : List ℕ) (e : lexeme.Text text ≡ lexeme.Word a). absurd (cc)))
@@ -125,13 +125,13 @@ dot-start : (line : ℕ) (first : List ℕ) (rest : List Lexeme) → begins_with
 unfolding form_of
 dot-start line first rest dot = ap (λ (b : Bool). cond b (directive_form line first rest) (coded line (label_of first) rest (lexeme.Word first ∷ rest))) dot
 
-directive-line : (line : ℕ) (words : List Lexeme) (first : List ℕ) (rest : List Lexeme) → IsDirectiveLine words first rest → form_of line words ≡ directive_form line first rest
+pub directive-line : (line : ℕ) (words : List Lexeme) (first : List ℕ) (rest : List Lexeme) → IsDirectiveLine words first rest → form_of line words ≡ directive_form line first rest
 directive-line line words first rest h = ap (form_of line) h.0 ∙ dot-start line first rest (so-dotted first h.1)
 
-label-line : (line : ℕ) (words : List Lexeme) (label : List ℕ) (rest : List Lexeme) → IsLabelLine words label rest → form_of line words ≡ labelled_form line label rest
+pub label-line : (line : ℕ) (words : List Lexeme) (label : List ℕ) (rest : List Lexeme) → IsLabelLine words label rest → form_of line words ≡ labelled_form line label rest
 label-line line words label rest h = ap (form_of line) h.0 ∙ form-start line (colon label) rest (Some label) (undotted (colon label) h.1) (label-is label)
 
-bare-line : (line : ℕ) (words : List Lexeme) → IsBareLine words → form_of line words ≡ unlabelled_form line words
+pub bare-line : (line : ℕ) (words : List Lexeme) → IsBareLine words → form_of line words ≡ unlabelled_form line words
 unfolding form_of
 bare-line line [] h = refl
 bare-line line (lexeme.Number n ∷ rest) h = refl
@@ -153,14 +153,14 @@ unlabelled-error : (line : ℕ) (words : List Lexeme) (kind : ReadKind) → inst
 unfolding unlabelled_form
 unlabelled-error line words kind e = ap (λ (r : Result PlainSaid ReadKind). r >>= λ said. Ok (code line [] said)) e
 
-abbrev named_code : ℕ → List ℕ → PlainSaid → Result Form ReadKind
+abbrev pub named_code : ℕ → List ℕ → PlainSaid → Result Form ReadKind
 named_code line label said = named (is_name label) label >>= λ name. Ok (code line (name ∷ []) said)
 
-labelled-so : (line : ℕ) (label : List ℕ) (w : Lexeme) (rest : List Lexeme) → labelled_form line label (w ∷ rest) ≡ (instruction (w ∷ rest) >>= named_code line label)
+pub labelled-so : (line : ℕ) (label : List ℕ) (w : Lexeme) (rest : List Lexeme) → labelled_form line label (w ∷ rest) ≡ (instruction (w ∷ rest) >>= named_code line label)
 unfolding labelled_form
 labelled-so line label w rest = refl
 
-label-alone : (line : ℕ) (label : List ℕ) → labelled_form line label [] ≡ (named (is_name label) label >>= λ name. Ok (form.Label name))
+pub label-alone : (line : ℕ) (label : List ℕ) → labelled_form line label [] ≡ (named (is_name label) label >>= λ name. Ok (form.Label name))
 unfolding labelled_form
 label-alone line label = refl
 
@@ -174,35 +174,35 @@ instruction-error line words said kind (Labelled label h n) i = label-line line 
 
 -- ---- a fault that is named holds
 
-no-operand : (A : Type 0) (good : Bool) → AnswersSo {A = A} good (Err BadOperand) → ⊥
-no-operand A true h = h
-no-operand A false h = absurd (cc)
+no-operand : (A : Type 0) (x : A) (good : Bool) → AnswersSo x good (Err BadOperand) → ⊥
+no-operand A x true h = h
+no-operand A x false h = absurd (cc)
 
-judged-spoiled : (words said : List Lexeme) (kind : ReadKind) (m : Mnemonic) (rest : List Lexeme) → HasInstruction words said → BeginsWith said m rest → instruction said ≡ Err kind → JudgedSo {A = PlainSaid} (FollowsMnemonic m rest) (Err kind) → IsSpoiled words kind
-judged-spoiled words said kind m rest i b e (inl k) =
-    subst (IsSpoiled words) (sym k) (WrongOperands said m rest i b (λ (good : Bool) (f : FollowsMnemonic m rest good). no-operand PlainSaid good (subst (AnswersSo good) (e ∙ ap Err k) (instruction-answers said m rest good b f))))
-judged-spoiled words said kind m rest i b e (inr h) = subst (IsSpoiled words) (sym h.0) (WrongOperandName said m rest i b h.1)
+judged-spoiled : (words said : List Lexeme) (kind : ReadKind) (word : List ℕ) (m : Mnemonic) (rest : List Lexeme) → HasInstruction words said → BeginsWith said word m rest → instruction said ≡ Err kind → JudgedSo {A = PlainSaid} (FollowsMnemonic word m rest) (Err kind) → IsSpoiled words kind
+judged-spoiled words said kind word m rest i b e (inl k) =
+    subst (IsSpoiled words) (sym k) (WrongOperands said word m rest i b (λ (x : PlainSaid) (good : Bool) (f : FollowsMnemonic word m rest x good). no-operand PlainSaid x good (subst (AnswersSo x good) (e ∙ ap Err k) (instruction-answers said word m rest x good b f))))
+judged-spoiled words said kind word m rest i b e (inr h) = subst (IsSpoiled words) (sym h.0) (WrongOperandName said word m rest h.1.0 i b h.1.1)
 
-err-kind : {A : Type 0} (a b : ReadKind) (r : Result A ReadKind) → r ≡ Err a → r ≡ Err b → a ≡ b
+pub err-kind : {A : Type 0} (a b : ReadKind) (r : Result A ReadKind) → r ≡ Err a → r ≡ Err b → a ≡ b
 err-kind a b r e h = let same : Err a ≡ Err b = sym e ∙ h in cc
 
 instruction-spoiled : (words said : List Lexeme) (kind : ReadKind) → HasInstruction words said → instruction said ≡ Err kind → IsSpoiled words kind
 instruction-spoiled words said kind i e = by_row (instructed said)
   where
     by_row : InstructedSo said (instruction said) → IsSpoiled words kind
-    by_row (inl h) = judged-spoiled words said kind h.0 h.1 i h.2 e (subst (JudgedSo (FollowsMnemonic h.0 h.1)) e h.3)
+    by_row (inl h) = judged-spoiled words said kind h.0 h.1 h.2 i h.3 e (subst (JudgedSo (FollowsMnemonic h.0 h.1 h.2)) e h.4)
     by_row (inr h) = subst (IsSpoiled words) (err-kind BadMnemonic kind (instruction said) h.1 e) (UnknownMnemonic said i h.0)
 
-directed-spoiled : (line : ℕ) (words : List Lexeme) (first : List ℕ) (rest : List Lexeme) (kind : ReadKind) → IsDirectiveLine words first rest → Contains directives first → directive_form line first rest ≡ Err kind → JudgedSo {A = Form} (FollowsDirective first rest) (Err kind) → IsSpoiled words kind
+directed-spoiled : (line : ℕ) (words : List Lexeme) (first : List ℕ) (rest : List Lexeme) (kind : ReadKind) → IsDirectiveLine words first rest → Contains directives first → directive_form line first rest ≡ Err kind → JudgedSo {A = Form} (DirectedAt line first rest) (Err kind) → IsSpoiled words kind
 directed-spoiled line words first rest kind h c e (inl k) =
-    subst (IsSpoiled words) (sym k) (WrongWords first rest h c (λ (good : Bool) (f : FollowsDirective first rest good). no-operand Form good (subst (AnswersSo good) (e ∙ ap Err k) (directive-answers line first rest good f))))
-directed-spoiled line words first rest kind h c e (inr p) = subst (IsSpoiled words) (sym p.0) (WrongName first rest h p.1)
+    subst (IsSpoiled words) (sym k) (WrongWords first rest h c (λ (says : ℕ → Form) (good : Bool) (f : FollowsDirective first rest says good). no-operand Form (says line) good (subst (AnswersSo (says line) good) (e ∙ ap Err k) (directive-answers line first rest says good f))))
+directed-spoiled line words first rest kind h c e (inr p) = subst (IsSpoiled words) (sym p.0) (WrongName first rest p.1.1.0 h p.1.1.2)
 
 directive-spoiled : (line : ℕ) (words : List Lexeme) (first : List ℕ) (rest : List Lexeme) (kind : ReadKind) → IsDirectiveLine words first rest → directive_form line first rest ≡ Err kind → IsSpoiled words kind
 directive-spoiled line words first rest kind h e = by_word (directed line first rest)
   where
-    by_word : DirectedSo first rest (directive_form line first rest) → IsSpoiled words kind
-    by_word (inl d) = directed-spoiled line words first rest kind h d.0 e (subst (JudgedSo (FollowsDirective first rest)) e d.1)
+    by_word : DirectedSo line first rest (directive_form line first rest) → IsSpoiled words kind
+    by_word (inl d) = directed-spoiled line words first rest kind h d.0 e (subst (JudgedSo (DirectedAt line first rest)) e d.1)
     by_word (inr d) = subst (IsSpoiled words) (err-kind BadDirective kind (directive_form line first rest) d.1 e) (UnknownDirective first rest h d.0)
 
 -- a name that is refused
@@ -243,14 +243,14 @@ err-spoiled line words kind e = spoiled-by line words kind e (view words)
 
 -- ---- no fault that holds is less
 
-judged-wrong : {A : Type 0} (P : Bool → Type 0) (r : Result A ReadKind) → JudgedSo P r → ((good : Bool) → P good → ⊥) → r ≡ Err BadOperand
-judged-wrong P (Ok x) j none = absurd (none true j)
+judged-wrong : {A : Type 0} (P : A → Bool → Type 0) (r : Result A ReadKind) → JudgedSo P r → ((x : A) (good : Bool) → P x good → ⊥) → r ≡ Err BadOperand
+judged-wrong P (Ok x) j none = absurd (none x true j)
 judged-wrong P (Err kind) (inl e) none = ap Err e
-judged-wrong P (Err kind) (inr h) none = absurd (none false h.1)
+judged-wrong P (Err kind) (inr h) none = absurd (none h.1.0 false h.1.1)
 
-badly-named : {A : Type 0} (r : Result A ReadKind) → AnswersSo false r → r ≡ Err BadName
-badly-named (Ok x) h = absurd h
-badly-named (Err kind) h = ap Err h
+badly-named : {A : Type 0} (x : A) (r : Result A ReadKind) → AnswersSo x false r → r ≡ Err BadName
+badly-named x (Ok y) h = absurd h
+badly-named x (Err kind) h = ap Err h
 
 err-most : (n : ℕ) (kind : ReadKind) (r : Result Form ReadKind) → r ≡ Err kind → kind_number kind ≤ n → FaultAtMost n r
 err-most n kind r e le = subst (FaultAtMost n) (sym e) le
@@ -258,25 +258,25 @@ err-most n kind r e le = subst (FaultAtMost n) (sym e) le
 unknown-least : (line : ℕ) (first : List ℕ) (rest : List Lexeme) → (Contains directives first → ⊥) → directive_form line first rest ≡ Err BadDirective
 unknown-least line first rest n = by_word (directed line first rest)
   where
-    by_word : DirectedSo first rest (directive_form line first rest) → directive_form line first rest ≡ Err BadDirective
+    by_word : DirectedSo line first rest (directive_form line first rest) → directive_form line first rest ≡ Err BadDirective
     by_word (inl d) = absurd (n d.0)
     by_word (inr d) = d.1
 
-wrong-least : (line : ℕ) (first : List ℕ) (rest : List Lexeme) → Contains directives first → ((good : Bool) → FollowsDirective first rest good → ⊥) → directive_form line first rest ≡ Err BadOperand
+wrong-least : (line : ℕ) (first : List ℕ) (rest : List Lexeme) → Contains directives first → ((says : ℕ → Form) (good : Bool) → FollowsDirective first rest says good → ⊥) → directive_form line first rest ≡ Err BadOperand
 wrong-least line first rest c none = by_word (directed line first rest)
   where
-    by_word : DirectedSo first rest (directive_form line first rest) → directive_form line first rest ≡ Err BadOperand
-    by_word (inl d) = judged-wrong (FollowsDirective first rest) (directive_form line first rest) d.1 none
+    by_word : DirectedSo line first rest (directive_form line first rest) → directive_form line first rest ≡ Err BadOperand
+    by_word (inl d) = judged-wrong (DirectedAt line first rest) (directive_form line first rest) d.1 (λ (f : Form) (good : Bool) (p : DirectedAt line first rest f good). none p.0 good p.2)
     by_word (inr d) = absurd (d.0 c)
 
-no-mnemonic : (said : List Lexeme) → ((m : Mnemonic) (rest : List Lexeme) → BeginsWith said m rest → ⊥) → instruction said ≡ Err BadMnemonic
+no-mnemonic : (said : List Lexeme) → ((word : List ℕ) (m : Mnemonic) (rest : List Lexeme) → BeginsWith said word m rest → ⊥) → instruction said ≡ Err BadMnemonic
 no-mnemonic said none = by_row (instructed said)
   where
     by_row : InstructedSo said (instruction said) → instruction said ≡ Err BadMnemonic
-    by_row (inl h) = absurd (none h.0 h.1 h.2)
+    by_row (inl h) = absurd (none h.0 h.1 h.2 h.3)
     by_row (inr h) = h.1
 
-judged-low : (P : Bool → Type 0) (kind : ReadKind) → JudgedSo {A = PlainSaid} P (Err kind) → kind_number kind ≤ 5
+judged-low : (P : PlainSaid → Bool → Type 0) (kind : ReadKind) → JudgedSo {A = PlainSaid} P (Err kind) → kind_number kind ≤ 5
 judged-low P kind (inl e) = subst (λ (k : ReadKind). kind_number k ≤ 5) (sym e) (omega arith)
 judged-low P kind (inr h) = subst (λ (k : ReadKind). kind_number k ≤ 5) (sym h.0) (omega arith)
 
@@ -284,7 +284,7 @@ instruction-low : (said : List Lexeme) (kind : ReadKind) → instruction said �
 instruction-low said kind e = by_row (instructed said)
   where
     by_row : InstructedSo said (instruction said) → kind_number kind ≤ 5
-    by_row (inl h) = judged-low (FollowsMnemonic h.0 h.1) kind (subst (JudgedSo (FollowsMnemonic h.0 h.1)) e h.3)
+    by_row (inl h) = judged-low (FollowsMnemonic h.0 h.1 h.2) kind (subst (JudgedSo (FollowsMnemonic h.0 h.1 h.2)) e h.4)
     by_row (inr h) = subst (λ (k : ReadKind). kind_number k ≤ 5) (err-kind BadMnemonic kind (instruction said) h.1 e) (omega arith)
 
 refused-name : {A : Type 0} (good : Bool) (bytes : List ℕ) (f : List ℕ → A) → good ≡ false → (named good bytes >>= λ name. Ok (f name)) ≡ Err BadName
@@ -302,12 +302,12 @@ label-least line label (w ∷ rest) bad = subst (FaultAtMost 5) (sym (labelled-s
 pub spoiled-least : (line : ℕ) (words : List Lexeme) (kind : ReadKind) → IsSpoiled words kind → FaultAtMost (kind_number kind) (form_of line words)
 spoiled-least line words kind (UnknownDirective first rest h n) = err-most 2 BadDirective (form_of line words) (directive-line line words first rest h ∙ unknown-least line first rest n) (omega arith)
 spoiled-least line words kind (WrongWords first rest h c none) = err-most 4 BadOperand (form_of line words) (directive-line line words first rest h ∙ wrong-least line first rest c none) (omega arith)
-spoiled-least line words kind (WrongName first rest h f) = err-most 5 BadName (form_of line words) (directive-line line words first rest h ∙ badly-named (directive_form line first rest) (directive-answers line first rest false f)) (omega arith)
+spoiled-least line words kind (WrongName first rest says h f) = err-most 5 BadName (form_of line words) (directive-line line words first rest h ∙ badly-named (says line) (directive_form line first rest) (directive-answers line first rest says false f)) (omega arith)
 spoiled-least line words kind (UnknownMnemonic said i none) = err-most 3 BadMnemonic (form_of line words) (instruction-error line words said BadMnemonic i (no-mnemonic said none)) (omega arith)
-spoiled-least line words kind (WrongOperands said m rest i b none) =
-    err-most 4 BadOperand (form_of line words) (instruction-error line words said BadOperand i (judged-wrong (FollowsMnemonic m rest) (instruction said) (instruction-judged said m rest b) none)) (omega arith)
-spoiled-least line words kind (WrongOperandName said m rest i b f) =
-    err-most 5 BadName (form_of line words) (instruction-error line words said BadName i (badly-named (instruction said) (instruction-answers said m rest false b f))) (omega arith)
+spoiled-least line words kind (WrongOperands said word m rest i b none) =
+    err-most 4 BadOperand (form_of line words) (instruction-error line words said BadOperand i (judged-wrong (FollowsMnemonic word m rest) (instruction said) (instruction-judged said word m rest b) none)) (omega arith)
+spoiled-least line words kind (WrongOperandName said word m rest what i b f) =
+    err-most 5 BadName (form_of line words) (instruction-error line words said BadName i (badly-named what (instruction said) (instruction-answers said word m rest what false b f))) (omega arith)
 spoiled-least line words kind (WrongLabel label rest h bad) = subst (FaultAtMost 5) (sym (label-line line words label rest h)) (label-least line label rest bad)
 
 -- ---- both ways

@@ -169,10 +169,10 @@ said-next before line lines inside none = by_form (form_alone line) refl
 spoiled-low : (words : List Lexeme) (kind : ReadKind) → IsSpoiled words kind → kind_number kind ≤ 8
 spoiled-low words kind (UnknownDirective first rest h n) = omega arith
 spoiled-low words kind (WrongWords first rest h c n) = omega arith
-spoiled-low words kind (WrongName first rest h f) = omega arith
+spoiled-low words kind (WrongName first rest says h f) = omega arith
 spoiled-low words kind (UnknownMnemonic said i n) = omega arith
-spoiled-low words kind (WrongOperands said m rest i b n) = omega arith
-spoiled-low words kind (WrongOperandName said m rest i b f) = omega arith
+spoiled-low words kind (WrongOperands said word m rest i b n) = omega arith
+spoiled-low words kind (WrongOperandName said word m rest what i b f) = omega arith
 spoiled-low words kind (WrongLabel label rest h b) = omega arith
 
 misplaced-low : (before : List Form) (line : PlainLine) (behind : List PlainLine) (f : Form) (kind : ReadKind) → IsSaidInside before → form_alone line ≡ Ok f → IsSuperToCome (f ∷ before) → ((other : ReadKind) → HasFault before line behind other → kind_number kind ≤ kind_number other) → IsMisplaced before behind f kind → kind_number kind ≤ 8

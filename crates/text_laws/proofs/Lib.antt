@@ -46,3 +46,4 @@ pub mod Standing
 pub mod LineRules
 pub mod FirstFault
 pub mod LeastOfText
+pub mod HaveForms

@@ -25,7 +25,7 @@ placed-alone : (ends : Bool) (s : PlainState) (r : Result Form ReadKind) (g : Fo
 placed-alone ends s (Ok f) g e = ap Ok (placed-so (misplaced ends s f) f g e)
 placed-alone ends s (Err kind) g e = absurd (cc)
 
-among-alone : (s : PlainState) (line : PlainLine) (lines : List PlainLine) (f : Form) → form_among s line lines ≡ Ok f → form_alone line ≡ Ok f
+pub among-alone : (s : PlainState) (line : PlainLine) (lines : List PlainLine) (f : Form) → form_among s line lines ≡ Ok f → form_alone line ≡ Ok f
 unfolding form_among
 among-alone s line lines f e = by_first (not s.has_class && not (may_stand_first line.words)) e
   where

@@ -62,39 +62,39 @@ opening (b ∷ rest) h some e =
     let bracket : b ≡ 40 = is b 40 h in
     (rest, ap (λ (x : ℕ). x ∷ rest) bracket, subst (λ (x : ℕ). is_among 41 (x ∷ rest) ≡ true) bracket e)
 
-parts-at : (bytes : List ℕ) (parts : List ℕ × List ℕ) (n : ℕ) → n ≡ position_or_len (λ b. nat_eq b 40) bytes → n < length bytes → split_at bytes (Some n) ≡ Ok parts → IsDescribed bytes parts.0
+parts-at : (bytes : List ℕ) (parts : List ℕ × List ℕ) (n : ℕ) → n ≡ position_or_len (λ b. nat_eq b 40) bytes → n < length bytes → split_at bytes (Some n) ≡ Ok parts → IsDescribed bytes parts.0 parts.1
 parts-at bytes parts n at below e = by_test (list_any (λ b. nat_eq b 41) (drop n bytes)) refl e
   where
-    by_test : (c : Bool) → list_any (λ b. nat_eq b 41) (drop n bytes) ≡ c → cond {A = Result (List ℕ × List ℕ) ReadKind} c (Ok (take n bytes, drop n bytes)) (Err BadOperand) ≡ Ok parts → IsDescribed bytes parts.0
+    by_test : (c : Bool) → list_any (λ b. nat_eq b 41) (drop n bytes) ≡ c → cond {A = Result (List ℕ × List ℕ) ReadKind} c (Ok (take n bytes, drop n bytes)) (Err BadOperand) ≡ Ok parts → IsDescribed bytes parts.0 parts.1
     by_test true h e' =
         let same : (take n bytes, drop n bytes) ≡ parts = cc in
         let some : 1 ≤ length (drop n bytes) = omega (arith, length-drop n bytes, below) in
         let begins : BeginsBy (λ b. nat_eq b 40) (drop n bytes) = subst (λ (k : ℕ). BeginsBy (λ b. nat_eq b 40) (drop k bytes)) (sym at) (at-first (λ b. nat_eq b 40) bytes) in
         let none : is_among 40 (take n bytes) ≡ false = subst (λ (k : ℕ). is_among 40 (take k bytes) ≡ false) (sym at) (before-first (λ b. nat_eq b 40) bytes) in
         let o = opening (drop n bytes) begins some h in
-        subst (IsDescribed bytes) (ap (λ (p : List ℕ × List ℕ). p.0) same) (o.0, sym (take-append-drop n bytes) ∙ ap (λ (x : List ℕ). take n bytes ++ x) o.1, none, o.2)
+        subst (λ (p : List ℕ × List ℕ). IsDescribed bytes p.0 p.1) same (o.0, sym (take-append-drop n bytes) ∙ ap (λ (x : List ℕ). take n bytes ++ x) o.1, none, o.1, o.2)
     by_test false h e' = absurd (cc)
 
-pub described-is : (bytes : List ℕ) (parts : List ℕ × List ℕ) → described bytes ≡ Ok parts → IsDescribed bytes parts.0
+pub described-is : (bytes : List ℕ) (parts : List ℕ × List ℕ) → described bytes ≡ Ok parts → IsDescribed bytes parts.0 parts.1
 described-is bytes parts e = by_place (position (λ b. nat_eq b 40) bytes) refl e
   where
-    by_place : (o : Option ℕ) → position (λ b. nat_eq b 40) bytes ≡ o → split_at bytes o ≡ Ok parts → IsDescribed bytes parts.0
+    by_place : (o : Option ℕ) → position (λ b. nat_eq b 40) bytes ≡ o → split_at bytes o ≡ Ok parts → IsDescribed bytes parts.0 parts.1
     by_place None h e' = absurd (cc)
     by_place (Some n) h e' = let f = position-found (λ b. nat_eq b 40) bytes n h in parts-at bytes parts n f.0 (omega (arith, f.0, f.1)) e'
 
-pub described-again : (bytes name : List ℕ) → IsDescribed bytes name → (inside : List ℕ) × (described bytes ≡ Ok (name, inside))
-described-again bytes name h =
+pub described-again : (bytes name desc : List ℕ) → IsDescribed bytes name desc → described bytes ≡ Ok (name, desc)
+described-again bytes name desc h =
     let behind : List ℕ = h.0 in
     let at : position (λ b. nat_eq b 40) (name ++ 40 ∷ behind) ≡ Some (length name) = position-is (λ b. nat_eq b 40) name 40 behind h.2 refl in
     let rest : drop (length name) (name ++ 40 ∷ behind) ≡ 40 ∷ behind = drop-append_seam name (40 ∷ behind) in
     let front : take (length name) (name ++ 40 ∷ behind) ≡ name = take-append_seam name (40 ∷ behind) in
-    let closes : is_among 41 (40 ∷ behind) ≡ true = h.3 in
+    let closes : is_among 41 (40 ∷ behind) ≡ true = h.4 in
     let read : described (name ++ 40 ∷ behind) ≡ Ok (name, 40 ∷ behind) =
     ap (split_at (name ++ 40 ∷ behind)) at
     ∙ ap (λ (x : List ℕ). cond {A = Result (List ℕ × List ℕ) ReadKind} (is_among 41 x) (Ok (take (length name) (name ++ 40 ∷ behind), x)) (Err BadOperand)) rest
     ∙ ap (λ (c : Bool). cond {A = Result (List ℕ × List ℕ) ReadKind} c (Ok (take (length name) (name ++ 40 ∷ behind), 40 ∷ behind)) (Err BadOperand)) closes
     ∙ ap (λ (x : List ℕ). Ok (x, 40 ∷ behind)) front in
-    (40 ∷ behind, ap described h.1 ∙ read)
+    ap described h.1 ∙ read ∙ ap (λ (x : List ℕ). Ok (name, x)) (sym h.3)
 
 -- ---- slashes
 

@@ -9,52 +9,53 @@ use Rattle.jasmin_lines.specs.declared.lexeme.Lexeme.TheVariants as lexeme
 use Rattle.jasmin_lines.specs.Faults.{◌>>=◌}
 use Rattle.jasmin_lines.specs.Words.{none, one, two, word_of, in_range, number_of, is_word, named, last_slash, is_member_at, is_member, split_at, described, flags_of}
 use Rattle.jasmin_lines.specs.Directives.{with_last, split_last}
-use Rattle.text_laws.specs.WordRules.{AreFlags, IsFrom}
+use Rattle.text_laws.specs.WordRules.{AreFlags, AreKept, HasFlags, IsFrom}
 use Rattle.text_laws.proofs.FaultTests.{any-found, any-there}
 use Rattle.text_laws.proofs.Successes.{is-word, same-bytes}
 use Rattle.text_laws.proofs.Tests.{and-first, and-second}
 
 -- ---- judging what was read: with good names, with others, or with wrong operands
 
-abbrev pub JudgedSo : {A : Type 0} → (Bool → Type 0) → Result A ReadKind → Type 0
-JudgedSo P (Ok x) = P true
-JudgedSo P (Err kind) = (kind ≡ BadOperand) ⊎ ((kind ≡ BadName) × P false)
+abbrev pub JudgedSo : {A : Type 0} → (A → Bool → Type 0) → Result A ReadKind → Type 0
+JudgedSo P (Ok x) = P x true
+JudgedSo {A = A} P (Err kind) = (kind ≡ BadOperand) ⊎ ((kind ≡ BadName) × ((x : A) × P x false))
 
 abbrev pub Lacks : {A : Type 0} → Result A ReadKind → Type 0
 Lacks (Ok x) = Unit {0}
 Lacks (Err kind) = kind ≡ BadOperand
 
-pub passes : {A B : Type 0} (P : Bool → Type 0) (r : Result A ReadKind) (g : A → Result B ReadKind) → Lacks r → ((x : A) → r ≡ Ok x → JudgedSo P (g x)) → JudgedSo P (r >>= g)
+pub passes : {A B : Type 0} (P : B → Bool → Type 0) (r : Result A ReadKind) (g : A → Result B ReadKind) → Lacks r → ((x : A) → r ≡ Ok x → JudgedSo P (g x)) → JudgedSo P (r >>= g)
 passes P (Ok x) g l h = h x refl
 passes P (Err kind) g l h = inl l
 
-pub names : {B : Type 0} (P : Bool → Type 0) (good : Bool) (bytes : List ℕ) (g : List ℕ → Result B ReadKind) → (good ≡ true → JudgedSo P (g bytes)) → (good ≡ false → P false) → JudgedSo P (named good bytes >>= g)
+pub names : {B : Type 0} (P : B → Bool → Type 0) (good : Bool) (bytes : List ℕ) (g : List ℕ → Result B ReadKind) → (good ≡ true → JudgedSo P (g bytes)) → (good ≡ false → (x : B) × P x false) → JudgedSo P (named good bytes >>= g)
 names P true bytes g h k = h refl
 names P false bytes g h k = inr (refl, k refl)
 
-pub name-word : {B : Type 0} (P : Bool → Type 0) (is_good : List ℕ → Bool) (w : Lexeme) (g : List ℕ → Result B ReadKind) → ((bytes : List ℕ) → w ≡ lexeme.Word bytes → is_good bytes ≡ true → JudgedSo P (g bytes)) → ((bytes : List ℕ) → w ≡ lexeme.Word bytes → is_good bytes ≡ false → P false) → JudgedSo P ((word_of w >>= λ bytes. named (is_good bytes) bytes) >>= g)
+pub name-word : {B : Type 0} (P : B → Bool → Type 0) (is_good : List ℕ → Bool) (w : Lexeme) (g : List ℕ → Result B ReadKind) → ((bytes : List ℕ) → w ≡ lexeme.Word bytes → is_good bytes ≡ true → JudgedSo P (g bytes)) → ((bytes : List ℕ) → w ≡ lexeme.Word bytes → is_good bytes ≡ false → (x : B) × P x false) → JudgedSo P ((word_of w >>= λ bytes. named (is_good bytes) bytes) >>= g)
 name-word P is_good (lexeme.Word bytes) g h k = names P (is_good bytes) bytes g (h bytes refl) (k bytes refl)
 name-word P is_good (lexeme.Number n) g h k = inl refl
 name-word P is_good (lexeme.Text text) g h k = inl refl
 
 -- ---- the answer to words that fit
 
-abbrev pub AnswersSo : {A : Type 0} → Bool → Result A ReadKind → Type 0
-AnswersSo true (Ok x) = Unit {0}
-AnswersSo true (Err kind) = ⊥
-AnswersSo false (Ok x) = ⊥
-AnswersSo false (Err kind) = kind ≡ BadName
+-- this where the names are good, and else a bad name
+abbrev pub AnswersSo : {A : Type 0} → A → Bool → Result A ReadKind → Type 0
+AnswersSo x true (Ok y) = y ≡ x
+AnswersSo x true (Err kind) = ⊥
+AnswersSo x false (Ok y) = ⊥
+AnswersSo x false (Err kind) = kind ≡ BadName
 
-pub known : {A B : Type 0} (good : Bool) (r : Result A ReadKind) (g : A → Result B ReadKind) (x : A) → r ≡ Ok x → AnswersSo good (g x) → AnswersSo good (r >>= g)
-known {A = A} good r g x e h = subst (λ (s : Result A ReadKind). AnswersSo good (s >>= g)) (sym e) h
+pub known : {A B : Type 0} (y : B) (good : Bool) (r : Result A ReadKind) (g : A → Result B ReadKind) (x : A) → r ≡ Ok x → AnswersSo y good (g x) → AnswersSo y good (r >>= g)
+known {A = A} y good r g x e h = subst (λ (s : Result A ReadKind). AnswersSo y good (s >>= g)) (sym e) h
 
-pub last-name : {A : Type 0} (good : Bool) (bytes : List ℕ) (f : List ℕ → A) → AnswersSo good (named good bytes >>= λ name. Ok (f name))
-last-name true bytes f = tt
+pub last-name : {A : Type 0} (good : Bool) (bytes : List ℕ) (f : List ℕ → A) → AnswersSo (f bytes) good (named good bytes >>= λ name. Ok (f name))
+last-name true bytes f = refl
 last-name false bytes f = refl
 
-pub more-names : {A : Type 0} (good more : Bool) (bytes : List ℕ) (g : List ℕ → Result A ReadKind) → AnswersSo more (g bytes) → AnswersSo (good && more) (named good bytes >>= g)
-more-names true more bytes g h = h
-more-names false more bytes g h = refl
+pub more-names : {A : Type 0} (y : A) (good more : Bool) (bytes : List ℕ) (g : List ℕ → Result A ReadKind) → AnswersSo y more (g bytes) → AnswersSo y (good && more) (named good bytes >>= g)
+more-names y true more bytes g h = h
+more-names y false more bytes g h = refl
 
 -- ---- what lacks nothing but operands
 
@@ -145,12 +146,48 @@ flags-test kept (w ∷ ws) h =
 abbrev pub among : List (List ℕ) → List Lexeme → List (List ℕ)
 among kept words = filter (λ flag. list_any (is_word flag) words) kept
 
-pub flags-found : (kept : List (List ℕ)) (words : List Lexeme) (flags : List (List ℕ)) → flags_of kept words ≡ Ok flags → AreFlags kept words
+-- a flag that is said
+word-there : (words : List Lexeme) (flag : List ℕ) → list_any (is_word flag) words ≡ true → Contains words (lexeme.Word flag)
+word-there words flag e =
+    let f = any-found (is_word flag) words e in
+    subst (Contains words) (is-word flag f.0 f.2) f.1
+
+there-word : (words : List Lexeme) (flag : List ℕ) → Contains words (lexeme.Word flag) → list_any (is_word flag) words ≡ true
+there-word words flag c = any-there (is_word flag) words (lexeme.Word flag) c (same-bytes flag)
+
+no-word : (words : List Lexeme) (flag : List ℕ) → (Contains words (lexeme.Word flag) → ⊥) → list_any (is_word flag) words ≡ false
+no-word words flag n = by (list_any (is_word flag) words) refl
+  where
+    by : (c : Bool) → list_any (is_word flag) words ≡ c → list_any (is_word flag) words ≡ false
+    by true e = absurd (n (word-there words flag e))
+    by false e = e
+
+kept-so : (words : List Lexeme) (others : List (List ℕ)) → AreKept words others (among others words)
+unfolding AreKept
+kept-so words [] = refl
+kept-so words (flag ∷ others) = by (list_any (is_word flag) words) refl (kept-so words others)
+  where
+    by : (c : Bool) → list_any (is_word flag) words ≡ c → AreKept words others (among others words) → AreKept words (flag ∷ others) (cond c (flag ∷ among others words) (among others words))
+    by true e more = inl (word-there words flag e, among others words, refl, more)
+    by false e more = inr ((λ (c : Contains words (lexeme.Word flag)). let t : list_any (is_word flag) words ≡ true = there-word words flag c in absurd (cc)), more)
+
+kept-is : (words : List Lexeme) (others kept : List (List ℕ)) → AreKept words others kept → kept ≡ among others words
+unfolding AreKept
+kept-is words [] kept h = h
+kept-is words (flag ∷ others) kept (inl h) =
+    let rest : List (List ℕ) = h.1 in
+    let first : cond (list_any (is_word flag) words) (flag ∷ among others words) (among others words) ≡ flag ∷ among others words = rw (there-word words flag h.0) refl in
+    h.2 ∙ ap (λ (x : List (List ℕ)). flag ∷ x) (kept-is words others rest h.3) ∙ sym first
+kept-is words (flag ∷ others) kept (inr h) =
+    let first : cond (list_any (is_word flag) words) (flag ∷ among others words) (among others words) ≡ among others words = rw (no-word words flag h.0) refl in
+    kept-is words others kept h.1 ∙ sym first
+
+pub flags-found : (kept : List (List ℕ)) (words : List Lexeme) (flags : List (List ℕ)) → flags_of kept words ≡ Ok flags → HasFlags kept words flags
 flags-found kept words flags e = by_test (list_all (λ word. list_any (λ flag. is_word flag word) kept) words) refl e
   where
-    by_test : (c : Bool) → list_all (λ word. list_any (λ flag. is_word flag word) kept) words ≡ c → cond {A = Result (List (List ℕ)) ReadKind} c (Ok (among kept words)) (Err BadOperand) ≡ Ok flags → AreFlags kept words
-    by_test true h e' = all-flags kept words h
+    by_test : (c : Bool) → list_all (λ word. list_any (λ flag. is_word flag word) kept) words ≡ c → cond {A = Result (List (List ℕ)) ReadKind} c (Ok (among kept words)) (Err BadOperand) ≡ Ok flags → HasFlags kept words flags
+    by_test true h e' = let same : among kept words ≡ flags = cc in (all-flags kept words h, subst (AreKept words kept) same (kept-so words kept))
     by_test false h e' = absurd (cc)
 
-pub flags-read : (kept : List (List ℕ)) (words : List Lexeme) → AreFlags kept words → flags_of kept words ≡ Ok (among kept words)
-flags-read kept words h = rw (flags-test kept words h) refl
+pub flags-read : (known : List (List ℕ)) (words : List Lexeme) (kept : List (List ℕ)) → HasFlags known words kept → flags_of known words ≡ Ok kept
+flags-read known words kept h = let are : flags_of known words ≡ Ok (among known words) = rw (flags-test known words h.0) refl in are ∙ ap Ok (sym (kept-is words known kept h.1))

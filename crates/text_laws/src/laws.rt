@@ -21,7 +21,7 @@ ghost use Rattle.text_laws.specs.LineRules.{HasFault, IsLeast, HasNone, IsFaultO
 ghost use Rattle.text_laws.specs.Sizes.{IsSmall, is_quotable};
 ghost use Rattle.text_laws.specs.Spelled.{spelled, IsSpellableLine};
 ghost use Rattle.text_laws.specs.Tokens.{AreTokens};
-ghost use Rattle.text_laws.specs.WordRules.{IsSpoiled};
+ghost use Rattle.text_laws.specs.WordRules.{IsSpoiled, HasForm, HaveForms};
 ghost use Rattle.text_laws.specs.Alike.{HasLines, AreAlike, ReadsAlike};
 
 /// What is read from a text is the one list of tokens that it has by the rules on its bytes, and where nothing can be read
@@ -75,4 +75,14 @@ pub fn named_fault_is_least()
     ensures refused { (text : List ℕ) (tokens : List Token) (f : Refusal) → (reading text tokens ≡ Err f) ↔ IsFaultOfText text tokens f }
     ensures least { (text : List ℕ) (tokens : List Token) (f : Refusal) → tokens_of text ≡ Ok tokens → (reading text tokens ≡ Err f) ↔ IsLeastOfText text tokens f }
     ensures read { (text : List ℕ) (tokens : List Token) (classes : List PlainClassText) → (reading text tokens ≡ Ok classes) ↔ (((f : Refusal) → IsFaultOfText text tokens f → ⊥) × (classes ≡ classes_of (forms_alone (lines_after text [] tokens)))) }
+{}
+
+/// What a line says is its form by the rules on its words, which are the rules of its faults too: it has one exactly where it
+/// has no fault, and no other. A text is read exactly where no line has a fault, and then its classes are those of the forms
+/// that its lines have by the rules.
+pub fn lines_have_forms()
+    ensures alone { (n : ℕ) (words : List Lexeme) (f : Form) → (form_of n words ≡ Ok f) ↔ HasForm n words f }
+    ensures one { (n : ℕ) (words : List Lexeme) (f g : Form) → HasForm n words f → HasForm n words g → f ≡ g }
+    ensures some { (n : ℕ) (words : List Lexeme) → ((f : Form) × HasForm n words f) ↔ HasNone (IsSpoiled words) }
+    ensures read { (text : List ℕ) (tokens : List Token) (classes : List PlainClassText) → (reading text tokens ≡ Ok classes) ↔ (((f : Refusal) → IsFaultOfText text tokens f → ⊥) × (forms : List Form) × HaveForms (lines_after text [] tokens) forms × (classes ≡ classes_of forms)) }
 {}

@@ -8,4 +8,5 @@ returns c = record {
   statics = λ classes p e. (linked_keeps_all classes p e).statics;
   fields = λ classes p e. (linked_keeps_all classes p e).fields;
   texts = λ classes p e. (linked_keeps_all classes p e).texts;
+  numbers = λ classes p e. (linked_keeps_all classes p e).numbers;
 }
