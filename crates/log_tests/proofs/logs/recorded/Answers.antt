@@ -11,7 +11,7 @@ use Rattle.schedule_log.specs.Parts.{AreParts}
 use Rattle.schedule_log.proofs.Placed.{and_true}
 use Rattle.schedule_log.proofs.Folded.{folded_run}
 use Rattle.schedule_log.proofs.Recording.{note_rising, parts_note}
-use Rattle.machine_tests.proofs.logs.recorded.Goals as goal
+use Rattle.log_tests.proofs.logs.recorded.Goals as goal
 
 few : (threads : List ℕ) → list_all (λ t. ltb t 3) threads ≡ true → AllByRecursion (λ t. t < 64) threads
 few [] e = tt

@@ -1,6 +1,6 @@
 use Rattle.std.proofs.Common.{◌≡◌, length, take}
 use Rattle.schedule_log.specs.Parts.{AreParts}
-use Rattle.machine_tests.proofs.logs.recorded.Given as goal
+use Rattle.log_tests.proofs.logs.recorded.Given as goal
 
 abbrev pub invariant-loop-clock : goal.invariant-loop-clock
 invariant-loop-clock l = record {
