@@ -1,20 +1,22 @@
 //! The commands over files and a sink in memory: words, files before, calls that fail, and what must come of it. A file for each
-//! command.
+//! command; those that hunt a fault have theirs in `hunt_tests`.
 
+#[cfg(test)]
 mod bytewise;
+#[cfg(test)]
 mod check;
-mod derive;
+#[cfg(test)]
 mod drill;
-mod isolate;
-mod programs;
-mod races;
+pub mod programs;
+#[cfg(test)]
 mod record;
-mod reduce;
+#[cfg(test)]
 mod replay;
-mod run;
-mod seek;
+#[cfg(test)]
 mod show;
+#[cfg(test)]
 mod tiles;
+#[cfg(test)]
 mod unknown;
 
 use dejavu_tool::{Status, dejavu};
@@ -44,7 +46,7 @@ pub struct Row {
 }
 
 /// A folder with the row's files. Calls that fail are counted from the first one after the files were stored.
-pub fn folder_of(alloc: Global, row: &Row) -> Result<MemoryFolder, NoMemory> {
+fn folder_of(alloc: Global, row: &Row) -> Result<MemoryFolder, NoMemory> {
     let mut failing = Vec::new(alloc);
     for call in row.folder {
         failing.push(call.saturating_add(row.files.len() as u64))?;
@@ -59,7 +61,7 @@ pub fn folder_of(alloc: Global, row: &Row) -> Result<MemoryFolder, NoMemory> {
     Ok(folder)
 }
 
-pub fn words_of(alloc: Global, row: &Row) -> Result<Vec<String>, NoMemory> {
+fn words_of(alloc: Global, row: &Row) -> Result<Vec<String>, NoMemory> {
     let mut words = Vec::new(alloc);
     for word in row.words {
         words.push(String::from_str(alloc, word)?)?;

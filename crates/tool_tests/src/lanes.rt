@@ -5,6 +5,7 @@ ghost use Rattle.std.specs.Prelude.{◌≡◌, ◌≤◌, None};
 ghost use Rattle.vm_model.specs.declared.limits.TheConstants.{MOST_EVENTS, MOST_LANES};
 ghost use Rattle.machine_model.specs.Machine.{end_of, start_machine};
 
+use crate::commands::programs::{WRITERS, WRITERS_LOG};
 use dejavu_tool::{Status, accept, dejavu, still_command};
 use drill_program::drill_text;
 use gate_core::{Meeting, NoMeeting};
@@ -17,14 +18,6 @@ use std::thread::Threads;
 use thread_driver::Recording;
 use tool_io::{Folder, MemoryFolder, MemorySink, Store};
 use vm_model::{MOST_EVENTS, NoMemory, Plain};
-
-/// Two threads that each add 1 to a static with no lock; `main` joins both and throws an `Error` where the static isn't 2.
-const WRITERS: &[u8] =
-    b".class public W\n.super java/lang/Thread\n.field static n I\n.method public <init>()V\naload_0\ninvokespecial java/lang/Thread/<init>()V\nreturn\n.end method\n.method public run()V\ngetstatic W/n I\niconst_1\niadd\nputstatic W/n I\nreturn\n.end method\n.method public static main([Ljava/lang/String;)V\nnew W\ndup\ninvokespecial W/<init>()V\nastore_1\nnew W\ndup\ninvokespecial W/<init>()V\nastore_2\naload_1\ninvokevirtual W/start()V\naload_2\ninvokevirtual W/start()V\naload_1\ninvokevirtual W/join()V\naload_2\ninvokevirtual W/join()V\ngetstatic W/n I\niconst_2\nif_icmpeq Good\nnew java/lang/Error\ndup\ninvokespecial java/lang/Error/<init>()V\nathrow\nGood:\nreturn\n.end method\n";
-
-/// The log of the writers' run by the ring without switches.
-const WRITERS_LOG: &[u8] =
-    b"\x44\x4A\x56\x4C\x01\x80\x80\x40\x03\x02\x00\x03\x06\x03\x01\x04\x02\x01\x07\x02\xF0";
 
 /// So often a test of lanes is tried: which one comes first is nobody's promise.
 const TRIES: u32 = 20;

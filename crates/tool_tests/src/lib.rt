@@ -1,12 +1,9 @@
-//! Tests of the tool as a whole: commands over folders and sinks in memory, lanes beside each other, machines of accepted
-//! programs, and which texts are accepted.
+//! Tests of the tool as a whole: commands over folders and sinks in memory, lanes beside each other, and machines of accepted
+//! programs. The rows of commands and the programs that they are tried on are public, since `hunt_tests` has such rows too.
 #![tactic(auto)]
 
-#[cfg(test)]
-mod commands;
+pub mod commands;
 #[cfg(test)]
 mod lanes;
 #[cfg(test)]
 mod machines;
-#[cfg(test)]
-mod shapes;

@@ -4,20 +4,13 @@ ghost use Rattle.std.specs.Prelude.{◌≤◌};
 ghost use Rattle.vm_model.specs.declared.limits.TheConstants.{MOST_EVENTS};
 ghost use Rattle.event_machine.specs.MachineView.{IsMachineOf};
 
+use crate::commands::programs::{SHORTEST, SUM, TWICE};
 use dejavu_tool::accept;
 use event_machine::{Machine, TurnFault};
 use std::alloc::Global;
 use std::test::Fail;
 use thread_driver::record_still;
 use vm_model::{End, Entry, Lock, Op, Plain, Reply};
-
-/// The sum of 1 to 10 in a static field: 23 events.
-const SUM: &[u8] =
-    b".class public Sum\n.super java/lang/Object\n.field static s I\n.method public static main([Ljava/lang/String;)V\n.limit stack 2\n.limit locals 2\niconst_1\nistore_1\nLoop:\ngetstatic Sum/s I\niload_1\niadd\nputstatic Sum/s I\niinc 1 1\niload_1\nbipush 10\nif_icmple Loop\ngetstatic java/lang/System/out Ljava/io/PrintStream;\ngetstatic Sum/s I\ninvokevirtual java/io/PrintStream/println(I)V\nreturn\n.end method\n";
-
-/// A `main` that only returns: one event.
-const SHORTEST: &[u8] =
-    b".class A\n.super java/lang/Object\n.method public static main([Ljava/lang/String;)V\nreturn\n.end method\n";
 
 /// Two threads that each add 1 to a static, and a `main` that starts both and waits for their ends.
 const TWO_WRITERS: &[u8] =
@@ -76,10 +69,6 @@ fn copies_go_on_alike(rt: HostRuntime) -> Result<(), Fail> {
     }
     Ok(())
 }
-
-/// A `main` that enters a monitor twice and waits, and a thread that notifies it.
-const TWICE: &[u8] =
-    b".class Twice\n.super java/lang/Thread\n.field static o Ljava/lang/Object;\n.method public <init>()V\naload_0\ninvokespecial java/lang/Thread/<init>()V\nreturn\n.end method\n.method public run()V\ngetstatic Twice/o Ljava/lang/Object;\nastore_1\naload_1\nmonitorenter\naload_1\ninvokevirtual java/lang/Object/notify()V\naload_1\nmonitorexit\nreturn\n.end method\n.method public static main([Ljava/lang/String;)V\nnew java/lang/Object\ndup\ninvokespecial java/lang/Object/<init>()V\nastore_1\naload_1\nputstatic Twice/o Ljava/lang/Object;\nnew Twice\ndup\ninvokespecial Twice/<init>()V\ninvokevirtual Twice/start()V\naload_1\nmonitorenter\naload_1\nmonitorenter\naload_1\ninvokevirtual java/lang/Object/wait()V\naload_1\nmonitorexit\naload_1\nmonitorexit\nreturn\n.end method\n";
 
 /// The event that a thread makes after the turns of these.
 fn event_after(

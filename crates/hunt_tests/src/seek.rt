@@ -1,9 +1,9 @@
 // The command seek.
 
-use crate::commands::programs::{FAULTY, SHORTEST};
-use crate::commands::{File, Row, first_wrong};
 use dejavu_tool::Status;
 use std::test::Fail;
+use tool_tests::commands::programs::{FAULTY, SHORTEST};
+use tool_tests::commands::{File, Row, first_wrong};
 
 const SEARCHES: &[Row] = &[
     Row {

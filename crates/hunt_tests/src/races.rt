@@ -1,9 +1,9 @@
 // The command races.
 
-use crate::commands::programs::{SUM, SUM_LOG, WRITERS, WRITERS_LOG};
-use crate::commands::{File, Row, first_wrong};
 use dejavu_tool::Status;
 use std::test::Fail;
+use tool_tests::commands::programs::{SUM, SUM_LOG, WRITERS, WRITERS_LOG};
+use tool_tests::commands::{File, Row, first_wrong};
 
 const RACES: &[Row] = &[
     Row {

@@ -1,9 +1,9 @@
 // The command derive.
 
-use crate::commands::programs::{SUM, SWITCHED_LOG, WRITERS, WRITERS_LOG};
-use crate::commands::{File, Row, first_wrong};
 use dejavu_tool::Status;
 use std::test::Fail;
+use tool_tests::commands::programs::{SUM, SWITCHED_LOG, WRITERS, WRITERS_LOG};
+use tool_tests::commands::{File, Row, first_wrong};
 
 const DERIVATIONS: &[Row] = &[
     Row {

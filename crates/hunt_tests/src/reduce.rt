@@ -1,9 +1,9 @@
 // The command reduce.
 
-use crate::commands::programs::WRITERS;
-use crate::commands::{File, Row, first_wrong};
 use dejavu_tool::Status;
 use std::test::Fail;
+use tool_tests::commands::programs::WRITERS;
+use tool_tests::commands::{File, Row, first_wrong};
 
 const REDUCTIONS: &[Row] = &[
     Row {
