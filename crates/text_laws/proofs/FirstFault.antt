@@ -13,9 +13,11 @@ use Rattle.jasmin_lines.specs.Plain.{PlainClassText}
 use Rattle.jasmin_reader.specs.Reading.{last_line, reading}
 use Rattle.text_laws.specs.LineFaults.{form_alone, form_if, forms_alone, begun_after, fault_of, faults_behind, line_faults, IsFirst}
 use Rattle.text_laws.specs.LineRules.{HasFault, IsLeast, HasNone, IsFirstFault, IsFaultOfText, state_after}
+use Rattle.text_laws.specs.WordRules.{HasForm}
+use Rattle.text_laws.proofs.LineForms.{form-related, said-form}
 use Rattle.text_laws.proofs.LineRules.{err-least, ok-none, least-err, none-ok}
 use Rattle.text_laws.proofs.Standing.{to-come, lacking}
-use Rattle.text_laws.proofs.NamedLine.{faults-line, named-first, read-none}
+use Rattle.text_laws.proofs.NamedLine.{among-alone, faults-line, named-first, read-none}
 
 -- ---- the faults in their order, and the first one
 
@@ -62,7 +64,9 @@ first-fault last before (line ∷ lines) f h =
     by_form (first-fault last (later before line) lines f) (form_among (state_after before) line lines) refl (subst (λ (xs : List Refusal). IsFirst xs f) (next-line last before line lines) h)
   where
     by_form : (IsFirst (faults_behind last (state_after (later before line)) lines) f → IsFirstFault last (later before line) lines f) → (r : Result Form ReadKind) → form_among (state_after before) line lines ≡ r → IsFirst (next_faults last before line lines r) f → IsFirstFault last before (line ∷ lines) f
-    by_form again (Ok x) e i = inr (ok-none before line lines x e, again i)
+    by_form again (Ok x) e i =
+        let has : HasForm line.number line.words x = (form-related line.number line.words x).0 (among-alone (state_after before) line lines x e) in
+        inr (ok-none before line lines x e, x, has, subst (λ (fs : List Form). IsFirstFault last fs lines f) (said-form before line x has) (again i))
     by_form again (Err kind) e i = inl (subst (IsLeast (HasFault before line lines)) (ap (λ (g : Refusal). g.kind) i) (err-least before line lines kind e), ap (λ (g : Refusal). g.line) (sym i))
 
 fault-first : (last : ℕ) (before : List Form) (lines : List PlainLine) (f : Refusal) → IsFirstFault last before lines f → IsFirst (faults_behind last (state_after before) lines) f
@@ -75,7 +79,7 @@ fault-first last before (line ∷ lines) f (inr h) =
     let good = none-ok before line lines h.0 in
     subst (λ (xs : List Refusal). IsFirst xs f) (sym (next-line last before line lines))
     (subst (λ (r : Result Form ReadKind). IsFirst (next_faults last before line lines r) f) (sym good.1)
-    (fault-first last (later before line) lines f h.1))
+    (subst (λ (fs : List Form). IsFirst (faults_behind last (state_after fs) lines) f) (sym (said-form before line h.1 h.2)) (fault-first last (h.1 ∷ before) lines f h.3)))
 
 -- ---- the law
 

@@ -20,15 +20,16 @@ use Rattle.jasmin_lines.specs.Faults.{kind_number}
 use Rattle.jasmin_reader.specs.Grammar.{form_among}
 use Rattle.jasmin_lines.specs.Lexemes.{PlainLine, lexeme_by, lexeme_of, filled, lines_after}
 use Rattle.jasmin_reader.specs.Reading.{last_line, reading}
-use Rattle.text_laws.specs.LineFaults.{form_alone, form_if}
-use Rattle.text_laws.specs.LineRules.{is_class, is_method, is_stack_limit, is_locals_limit, comes_after_super, ends_method, Stands, IsMethodOpen, IsSuperSaid, IsSuperToCome, SetsAgain, IsMisplaced, OfMethod, OfClass, BeforeSuper, LabelAgain, NeverEnded, SuperAgain, StackAgain, LocalsAgain, HasFault, BeforeClasses, ByItself, Misplaced, IsLeast, HasNone, IsFirstFault, IsFaultOfText, IsAnyFault, IsNoLater, IsLeastOfText, state_after}
+use Rattle.text_laws.specs.LineRules.{is_class, is_method, is_stack_limit, is_locals_limit, comes_after_super, ends_method, Stands, IsMethodOpen, IsSuperSaid, IsSuperToCome, SetsAgain, IsMisplaced, OfMethod, OfClass, BeforeSuper, LabelAgain, NeverEnded, SuperAgain, StackAgain, LocalsAgain, HasFault, BeforeClasses, ByItself, Misplaced, IsLeast, HasNone, IsFirstFault, IsFaultOfText, AreSaidWith, SaysForm, IsAnyFault, IsNoLater, IsLeastOfText, state_after}
 use Rattle.text_laws.specs.Tokens.{is_feed, lines_ended, AreTokensAfter}
-use Rattle.text_laws.specs.WordRules.{IsSpoiled, UnknownDirective, WrongWords, WrongName, UnknownMnemonic, WrongOperands, WrongOperandName, WrongLabel}
+use Rattle.text_laws.specs.WordRules.{HasForm, IsSpoiled, UnknownDirective, WrongWords, WrongName, UnknownMnemonic, WrongOperands, WrongOperandName, WrongLabel}
 use Rattle.text_laws.proofs.FaultTests.{same-kind}
 use Rattle.text_laws.proofs.FirstFault.{refused-first}
+use Rattle.text_laws.proofs.LineForms.{form-related, said-with}
 use Rattle.text_laws.proofs.LineOrder.{Between, lines-between, tokens-ascend}
 use Rattle.text_laws.proofs.LineRules.{err-least, ok-none}
 use Rattle.text_laws.proofs.Lines.{goes_on}
+use Rattle.text_laws.proofs.NamedLine.{among-alone}
 use Rattle.text_laws.proofs.TokensRelated.{related}
 
 -- ---- each line stands after the one before it
@@ -159,12 +160,8 @@ inside-next : (f : Form) (before : List Form) → IsSaidInside before → (IsSup
 inside-next f before inside none (inl m) c = none (still-to-come f before (method-no-class f m) c) (method-after-super f m)
 inside-next f before inside none (inr m) c = inside m.1 (still-to-come f before (unended f m.0) c)
 
-said-next : (before : List Form) (line : PlainLine) (lines : List PlainLine) → IsSaidInside before → HasNone (HasFault before line lines) → IsSaidInside (form_if (form_alone line) ++ before)
-said-next before line lines inside none = by_form (form_alone line) refl
-  where
-    by_form : (r : Result Form ReadKind) → form_alone line ≡ r → IsSaidInside (form_if r ++ before)
-    by_form (Err kind) e = inside
-    by_form (Ok f) e = λ (h : IsMethodOpen (f ∷ before)) (c : IsSuperToCome (f ∷ before)). inside-next f before inside (λ t m. none NoSuper (Misplaced f e (BeforeSuper t m))) h c
+said-next : (before : List Form) (line : PlainLine) (lines : List PlainLine) (f : Form) → HasForm line.number line.words f → IsSaidInside before → HasNone (HasFault before line lines) → IsSaidInside (f ∷ before)
+said-next before line lines f e inside none = λ (h : IsMethodOpen (f ∷ before)) (c : IsSuperToCome (f ∷ before)). inside-next f before inside (λ t m. none NoSuper (Misplaced f e (BeforeSuper t m))) h c
 
 spoiled-low : (words : List Lexeme) (kind : ReadKind) → IsSpoiled words kind → kind_number kind ≤ 8
 spoiled-low words kind (UnknownDirective first rest h n) = omega arith
@@ -175,7 +172,7 @@ spoiled-low words kind (WrongOperands said word m rest i b n) = omega arith
 spoiled-low words kind (WrongOperandName said word m rest what i b f) = omega arith
 spoiled-low words kind (WrongLabel label rest h b) = omega arith
 
-misplaced-low : (before : List Form) (line : PlainLine) (behind : List PlainLine) (f : Form) (kind : ReadKind) → IsSaidInside before → form_alone line ≡ Ok f → IsSuperToCome (f ∷ before) → ((other : ReadKind) → HasFault before line behind other → kind_number kind ≤ kind_number other) → IsMisplaced before behind f kind → kind_number kind ≤ 8
+misplaced-low : (before : List Form) (line : PlainLine) (behind : List PlainLine) (f : Form) (kind : ReadKind) → IsSaidInside before → HasForm line.number line.words f → IsSuperToCome (f ∷ before) → ((other : ReadKind) → HasFault before line behind other → kind_number kind ≤ kind_number other) → IsMisplaced before behind f kind → kind_number kind ≤ 8
 misplaced-low before line behind f kind inside e c least (OfMethod h i) = omega arith
 misplaced-low before line behind f kind inside e c least (OfClass h i) = omega arith
 misplaced-low before line behind f kind inside e c least (BeforeSuper h i) = omega arith
@@ -185,17 +182,17 @@ misplaced-low before line behind f kind inside e c least (SuperAgain h i) = absu
 misplaced-low before line behind f kind inside e c least (StackAgain h k i) = absurd (inside h (still-to-come f before (stack-no-class f i) c))
 misplaced-low before line behind f kind inside e c least (LocalsAgain h k i) = absurd (inside h (still-to-come f before (locals-no-class f i) c))
 
-fault-low : (before : List Form) (line : PlainLine) (behind : List PlainLine) (kind : ReadKind) → IsSaidInside before → IsSuperToCome (form_if (form_alone line) ++ before) → ((other : ReadKind) → HasFault before line behind other → kind_number kind ≤ kind_number other) → HasFault before line behind kind → kind_number kind ≤ 8
-fault-low before line behind kind inside c least (BeforeClasses n b) = omega arith
-fault-low before line behind kind inside c least (ByItself h) = spoiled-low line.words kind h
-fault-low before line behind kind inside c least (Misplaced f e m) = misplaced-low before line behind f kind inside e (subst (λ (r : Result Form ReadKind). IsSuperToCome (form_if r ++ before)) e c) least m
+fault-low : (before : List Form) (line : PlainLine) (behind : List PlainLine) (said : List Form) (kind : ReadKind) → IsSaidInside before → AreSaidWith before line said → IsSuperToCome said → ((other : ReadKind) → HasFault before line behind other → kind_number kind ≤ kind_number other) → HasFault before line behind kind → kind_number kind ≤ 8
+fault-low before line behind said kind inside w c least (BeforeClasses n b) = omega arith
+fault-low before line behind said kind inside w c least (ByItself h) = spoiled-low line.words kind h
+fault-low before line behind said kind inside w c least (Misplaced f e m) = misplaced-low before line behind f kind inside e (subst IsSuperToCome (said-with before line said f e w) c) least m
 
 -- ---- the first is the least
 
 any-from : (n last : ℕ) (before : List Form) (lines : List PlainLine) (g : Refusal) → Between n last lines → IsAnyFault last before lines g → n ≤ g.line
 any-from n last before [] g h i = let here : g.line ≡ last = ap (λ (x : Refusal). x.line) i.1 in omega (arith, here, h)
 any-from n last before (line ∷ lines) g h (inl i) = omega (arith, h.0, i.1)
-any-from n last before (line ∷ lines) g h (inr i) = let more : line.number ≤ g.line = any-from line.number last _ lines g h.1 i in omega (arith, more, h.0)
+any-from n last before (line ∷ lines) g h (inr i) = let more : line.number ≤ g.line = any-from line.number last i.0 lines g h.1 i.2 in omega (arith, more, h.0)
 
 before-or-at : (a b : ℕ) → a ≤ b → (a < b) ⊎ (a ≡ b)
 before-or-at a b le = by_test (nat_lt a b) refl
@@ -204,41 +201,45 @@ before-or-at a b le = by_test (nat_lt a b) refl
     by_test true e = inl (grind (arith, nat_tests))
     by_test false e = inr (grind (arith, nat_tests))
 
-first-before-end : (last : ℕ) (before : List Form) (line : PlainLine) (lines : List PlainLine) (f g : Refusal) → Strict (line.number + 1) lines → Between line.number last lines → IsSaidInside before → IsLeast (HasFault before line lines) f.kind → f.line ≡ line.number → IsAnyFault last (form_if (form_alone line) ++ before) lines g → IsNoLater f g
-first-before-end last before line [] f g s b inside l e i = by_line (before-or-at line.number last b)
+first-before-end : (last : ℕ) (before said : List Form) (line : PlainLine) (lines : List PlainLine) (f g : Refusal) → AreSaidWith before line said → Strict (line.number + 1) lines → Between line.number last lines → IsSaidInside before → IsLeast (HasFault before line lines) f.kind → f.line ≡ line.number → IsAnyFault last said lines g → IsNoLater f g
+first-before-end last before said line [] f g w s b inside l e i = by_line (before-or-at line.number last b)
   where
     by_line : (line.number < last) ⊎ (line.number ≡ last) → IsNoLater f g
     by_line (inl less) = let there : g.line ≡ last = ap (λ (x : Refusal). x.line) i.1 in inl (omega (arith, less, there, e))
     by_line (inr same) =
         let there : g.line ≡ last = ap (λ (x : Refusal). x.line) i.1 in
         let eight : kind_number g.kind ≡ 8 = ap (λ (x : Refusal). kind_number x.kind) i.1 in
-        let low : kind_number f.kind ≤ 8 = fault-low before line [] f.kind inside i.0 l.least l.holds in
+        let low : kind_number f.kind ≤ 8 = fault-low before line [] said f.kind inside w i.0 l.least l.holds in
         inr (e ∙ same ∙ sym there, omega (arith, eight, low))
-first-before-end last before line (next ∷ lines) f g s b inside l e i =
-    let more : line.number + 1 ≤ g.line = any-from (line.number + 1) last (form_if (form_alone line) ++ before) (next ∷ lines) g (s.0, b.1) i in
+first-before-end last before said line (next ∷ lines) f g w s b inside l e i =
+    let more : line.number + 1 ≤ g.line = any-from (line.number + 1) last said (next ∷ lines) g (s.0, b.1) i in
     inl (omega (arith, more, e))
 
 first-least : (n last : ℕ) (before : List Form) (lines : List PlainLine) (f g : Refusal) → Strict n lines → Between n last lines → IsSaidInside before → IsFirstFault last before lines f → IsAnyFault last before lines g → IsNoLater f g
 first-least n last before [] f g s b inside h i = let same : f ≡ g = h.1 ∙ sym i.1 in inr (ap (λ (x : Refusal). x.line) same, (let kinds : kind_number f.kind ≡ kind_number g.kind = ap (λ (x : Refusal). kind_number x.kind) same in omega (arith, kinds)))
 first-least n last before (line ∷ lines) f g s b inside (inl h) (inl i) = inr (h.1 ∙ sym i.1, h.0.least g.kind i.0)
-first-least n last before (line ∷ lines) f g s b inside (inl h) (inr i) = first-before-end last before line lines f g s.1 b.1 inside h.0 h.1 i
+first-least n last before (line ∷ lines) f g s b inside (inl h) (inr i) = first-before-end last before i.0 line lines f g i.1 s.1 b.1 inside h.0 h.1 i.2
 first-least n last before (line ∷ lines) f g s b inside (inr h) (inl i) = absurd (h.0 g.kind i.0)
 first-least n last before (line ∷ lines) f g s b inside (inr h) (inr i) =
-    first-least line.number last (form_if (form_alone line) ++ before) lines f g (strict-lower line.number (line.number + 1) lines (omega arith) s.1) b.1 (said-next before line lines inside h.0) h.1 i
+    first-least line.number last (h.1 ∷ before) lines f g (strict-lower line.number (line.number + 1) lines (omega arith) s.1) b.1 (said-next before line lines h.1 h.2 inside h.0) h.3
+    (subst (λ (said : List Form). IsAnyFault last said lines g) (said-with before line i.0 h.1 h.2 i.1) i.2)
 
 first-any : (last : ℕ) (before : List Form) (lines : List PlainLine) (f : Refusal) → IsFirstFault last before lines f → IsAnyFault last before lines f
 first-any last before [] f h = h
 first-any last before (line ∷ lines) f (inl h) = inl (h.0.holds, h.1)
-first-any last before (line ∷ lines) f (inr h) = inr (first-any last (form_if (form_alone line) ++ before) lines f h.1)
+first-any last before (line ∷ lines) f (inr h) = inr (h.1 ∷ before, SaysForm h.1 h.2 refl, first-any last (h.1 ∷ before) lines f h.3)
 
 any-first : (last : ℕ) (before : List Form) (lines : List PlainLine) (g : Refusal) → IsAnyFault last before lines g → (f : Refusal) × IsFirstFault last before lines f
 any-first last before [] g i = (g, i)
-any-first last before (line ∷ lines) g i = by_form (λ (j : IsAnyFault last (form_if (form_alone line) ++ before) lines g). any-first last (form_if (form_alone line) ++ before) lines g j) (form_among (state_after before) line lines) refl i
+any-first last before (line ∷ lines) g i = by_form (λ (said : List Form) (j : IsAnyFault last said lines g). any-first last said lines g j) (form_among (state_after before) line lines) refl i
   where
-    by_form : (IsAnyFault last (form_if (form_alone line) ++ before) lines g → (f : Refusal) × IsFirstFault last (form_if (form_alone line) ++ before) lines f) → (r : Result Form ReadKind) → form_among (state_after before) line lines ≡ r → IsAnyFault last before (line ∷ lines) g → (f : Refusal) × IsFirstFault last before (line ∷ lines) f
+    by_form : ((said : List Form) → IsAnyFault last said lines g → (f : Refusal) × IsFirstFault last said lines f) → (r : Result Form ReadKind) → form_among (state_after before) line lines ≡ r → IsAnyFault last before (line ∷ lines) g → (f : Refusal) × IsFirstFault last before (line ∷ lines) f
     by_form again (Err kind) e j = (record { kind = kind; line = line.number }, inl (err-least before line lines kind e, refl))
     by_form again (Ok f) e (inl j) = absurd (ok-none before line lines f e g.kind j.0)
-    by_form again (Ok f) e (inr j) = let k = again j in (k.0, inr (ok-none before line lines f e, k.1))
+    by_form again (Ok f) e (inr j) =
+        let has : HasForm line.number line.words f = (form-related line.number line.words f).0 (among-alone (state_after before) line lines f e) in
+        let k = again (f ∷ before) (subst (λ (said : List Form). IsAnyFault last said lines g) (said-with before line j.0 f has j.1) j.2) in
+        (k.0, inr (ok-none before line lines f e, f, has, k.1))
 
 -- ---- the law
 

@@ -42,6 +42,7 @@ pub mod DirectiveRules
 pub mod DirectiveAnswers
 pub mod InstructionRules
 pub mod AloneRules
+pub mod LineForms
 pub mod Standing
 pub mod LineRules
 pub mod FirstFault

@@ -14,8 +14,10 @@ use Rattle.jasmin_lines.specs.Lexemes.{PlainLine}
 use Rattle.jasmin_lines.specs.Words.{is_word}
 use Rattle.text_laws.specs.LineFaults.{form_alone}
 use Rattle.text_laws.specs.LineRules.{is_class, is_of_class, is_of_method, comes_after_super, is_method, is_super, is_stack_limit, is_locals_limit, begins_as_first, begins_anew, end_words, IsMethodOpen, NoEndComes, SetsAgain, IsMisplaced, OfMethod, OfClass, BeforeSuper, LabelAgain, NeverEnded, SuperAgain, StackAgain, LocalsAgain, HasFault, BeforeClasses, ByItself, Misplaced, IsLeast, HasNone, state_after}
+use Rattle.text_laws.specs.WordRules.{HasForm}
 use Rattle.text_laws.proofs.AloneRules.{err-spoiled, spoiled-least}
 use Rattle.text_laws.proofs.FaultTests.{same-label, OfResult, FaultAtMost, positive, same-kind}
+use Rattle.text_laws.proofs.LineForms.{has-form, form-related}
 use Rattle.text_laws.proofs.Standing.{so, so-not, is-so, is-not, class-kept, super-kept, stack-kept, locals-kept, method-open, no-method, is-inside, is-outside, to-come, lacking, label-shared, shared-label}
 use Rattle.text_laws.proofs.Tests.{and-first, and-second, or-first, or-second, not-true}
 
@@ -118,7 +120,7 @@ misplaced-so before behind (form.Label label) =
 misplaced-so before behind (form.Code l) =
     method-line before behind (form.Code l) _ refl (λ opened. last-test before behind (form.Code l) LabelTwice (has_label (state_after before) l.labels) (λ i. LabelAgain opened (label-shared before l.labels i)))
 
-placed-so : (before : List Form) (line : PlainLine) (behind : List PlainLine) (f : Form) (o : Option ReadKind) → form_alone line ≡ Ok f → OfOption (IsMisplaced before behind f) o → OfResult (HasFault before line behind) (placed o f)
+placed-so : (before : List Form) (line : PlainLine) (behind : List PlainLine) (f : Form) (o : Option ReadKind) → HasForm line.number line.words f → OfOption (IsMisplaced before behind f) o → OfResult (HasFault before line behind) (placed o f)
 placed-so before line behind f None e h = tt
 placed-so before line behind f (Some kind) e h = Misplaced f e h
 
@@ -140,7 +142,7 @@ named-holds before line behind = subst (OfResult (HasFault before line behind)) 
     s = state_after before
 
     by_form : (r : Result Form ReadKind) → form_alone line ≡ r → OfResult (HasFault before line behind) (r >>= λ f. placed (misplaced (list_any is_end behind) (state_after before) f) f)
-    by_form (Ok f) e = placed-so before line behind f (misplaced (list_any is_end behind) (state_after before) f) e (misplaced-so before behind f)
+    by_form (Ok f) e = placed-so before line behind f (misplaced (list_any is_end behind) (state_after before) f) ((form-related line.number line.words f).0 e) (misplaced-so before behind f)
     by_form (Err kind) e = ByItself (err-spoiled line.number line.words kind e)
 
     by_early : (c : Bool) → is_early (state_after before) line ≡ c → OfResult (HasFault before line behind) (among (state_after before) line behind c (form_alone line))
@@ -247,7 +249,7 @@ named-least before line behind kind (ByItself h) =
     (early-least s line behind kind (is_early s line) (form_alone line) (still-least (kind_number kind) (form_alone line) _ (spoiled-least line.number line.words kind h)))
 named-least before line behind kind (Misplaced f e m) =
     let s : PlainState = state_after before in
-    subst (FaultAtMost (kind_number kind)) (sym (among-so s line behind ∙ ap (among s line behind (is_early s line)) e))
+    subst (FaultAtMost (kind_number kind)) (sym (among-so s line behind ∙ ap (among s line behind (is_early s line)) (has-form line.number line.words f e)))
     (early-least s line behind kind (is_early s line) (Ok f) (placed-least (kind_number kind) (misplaced (list_any is_end behind) s f) f (misplaced-least before behind f kind m)))
 
 -- ---- both ways

@@ -1,6 +1,6 @@
 -- What is wrong with a line where it stands: one case for each rule. The lines before it are told by what each says, the
 -- nearest first, and of those after it counts whether one ends a method.
-use Rattle.std.specs.Prelude.{◌≡◌, ◌≢◌, ◌≤◌, ◌<◌, ◌⊎◌, ℕ, Bool, true, false, List, [], ◌∷◌, ◌++◌, Contains, codes, bytes_eq, Ok}
+use Rattle.std.specs.Prelude.{◌≡◌, ◌≢◌, ◌≤◌, ◌<◌, ◌⊎◌, ℕ, Bool, true, false, List, [], ◌∷◌, Contains, codes, bytes_eq}
 use Rattle.std.specs.List.{AllByRecursion, list_any}
 use Rattle.jasmin_text.specs.declared.token.Token.{Token}
 use Rattle.jasmin_lines.specs.declared.fault.ReadKind.{ReadKind}
@@ -14,8 +14,7 @@ use Rattle.jasmin_lines.specs.Faults.{kind_number}
 use Rattle.jasmin_reader.specs.Grammar.{PlainState, nothing_begun, next_state}
 use Rattle.jasmin_lines.specs.Lexemes.{PlainLine, lines_after}
 use Rattle.jasmin_reader.specs.Reading.{last_line}
-use Rattle.text_laws.specs.LineFaults.{form_alone, form_if}
-use Rattle.text_laws.specs.WordRules.{IsSpoiled}
+use Rattle.text_laws.specs.WordRules.{IsSpoiled, HasForm}
 
 -- ---- lines
 
@@ -153,7 +152,7 @@ pub data HasFault (before : List Form) (line : PlainLine) (behind : List PlainLi
   -- what the line has wherever it stands
   ByItself : {kind : ReadKind} → IsSpoiled line.words kind → HasFault before line behind kind
   -- what a line that says this has where it stands
-  Misplaced : {kind : ReadKind} (f : Form) → form_alone line ≡ Ok f → IsMisplaced before behind f kind → HasFault before line behind kind
+  Misplaced : {kind : ReadKind} (f : Form) → HasForm line.number line.words f → IsMisplaced before behind f kind → HasFault before line behind kind
 
 -- the least of all kinds of which something holds
 pub record IsLeast (P : ReadKind → Type 0) (kind : ReadKind) : Type 0 where
@@ -165,21 +164,28 @@ HasNone P = (kind : ReadKind) → P kind → ⊥
 
 -- ---- faults of a text
 
--- the first line with a fault, and the least that it has; at the end of the text a super is still to come
+-- the first line with a fault, and the least that it has; at the end of the text a super is still to come. A line without
+-- a fault has a form, which stands before the next line.
 abbrev pub IsFirstFault : ℕ → List Form → List PlainLine → Refusal → Type 0
 IsFirstFault last before [] f = IsSuperToCome before × (f ≡ record { kind = NoSuper; line = last })
 IsFirstFault last before (line ∷ lines) f =
     (IsLeast (HasFault before line lines) f.kind × (f.line ≡ line.number))
-    ⊎ (HasNone (HasFault before line lines) × IsFirstFault last (form_if (form_alone line) ++ before) lines f)
+    ⊎ (HasNone (HasFault before line lines) × (said : Form) × HasForm line.number line.words said × IsFirstFault last (said ∷ before) lines f)
 
 abbrev pub IsFaultOfText : List ℕ → List Token → Refusal → Type 0
 IsFaultOfText text tokens f = IsFirstFault (last_line tokens) [] (lines_after text [] tokens) f
+
+-- What the lines up to this one say, the nearest first. A line that has no form says nothing.
+pub data AreSaidWith (before : List Form) (line : PlainLine) (said : List Form) : Type 0 where
+  SaysForm : (f : Form) → HasForm line.number line.words f → said ≡ f ∷ before → AreSaidWith before line said
+  SaysNothing : ((f : Form) → HasForm line.number line.words f → ⊥) → said ≡ before → AreSaidWith before line said
 
 -- a line of these has this fault, or the text's end does
 abbrev pub IsAnyFault : ℕ → List Form → List PlainLine → Refusal → Type 0
 IsAnyFault last before [] f = IsSuperToCome before × (f ≡ record { kind = NoSuper; line = last })
 IsAnyFault last before (line ∷ lines) f =
-    (HasFault before line lines f.kind × (f.line ≡ line.number)) ⊎ IsAnyFault last (form_if (form_alone line) ++ before) lines f
+    (HasFault before line lines f.kind × (f.line ≡ line.number))
+    ⊎ ((said : List Form) × AreSaidWith before line said × IsAnyFault last said lines f)
 
 -- at an earlier line, or at the same with no greater kind
 abbrev pub IsNoLater : Refusal → Refusal → Type 0

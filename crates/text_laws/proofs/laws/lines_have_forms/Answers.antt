@@ -1,4 +1,5 @@
-use Rattle.text_laws.proofs.HaveForms.{form-related, one-form, form-or-fault, read-forms}
+use Rattle.text_laws.proofs.HaveForms.{read-forms}
+use Rattle.text_laws.proofs.LineForms.{form-related, one-form, form-or-fault}
 use Rattle.text_laws.proofs.laws.lines_have_forms.Goals as goal
 
 pub returns : goal.returns
