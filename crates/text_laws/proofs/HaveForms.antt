@@ -1,4 +1,4 @@
--- A text is read as the classes of the forms that its lines have by the rules.
+-- A text is read as the classes that the forms of its lines make by the rules.
 use Rattle.std.proofs.Common.{◌≡◌, ℕ, List, [], ◌∷◌, ◌++◌, Result, Ok, Err, refl, ap, sym, ◌∙◌, subst, inl, inr}
 use Rattle.std.specs.Prelude.{◌↔◌}
 use Rattle.jasmin_text.specs.declared.token.Token.{Token}
@@ -10,9 +10,11 @@ use Rattle.jasmin_reader.specs.Grammar.{form_among}
 use Rattle.jasmin_lines.specs.Lexemes.{PlainLine, lines_after}
 use Rattle.jasmin_lines.specs.Plain.{PlainClassText}
 use Rattle.jasmin_reader.specs.Reading.{last_line, reading}
+use Rattle.text_laws.specs.ClassRules.{AreClassesOf}
 use Rattle.text_laws.specs.LineFaults.{form_alone, form_if, forms_alone}
 use Rattle.text_laws.specs.LineRules.{IsFirstFault, IsFaultOfText, state_after}
 use Rattle.text_laws.specs.WordRules.{HasForm, HaveForms}
+use Rattle.text_laws.proofs.ClassRules.{classes-made}
 use Rattle.text_laws.proofs.FirstFault.{read-faultless}
 use Rattle.text_laws.proofs.LineForms.{has-form, form-related}
 use Rattle.text_laws.proofs.LineRules.{err-least, ok-none}
@@ -37,14 +39,15 @@ have-forms last before (line ∷ lines) none = by_form (λ (x : Form). have-form
         subst (λ (r : Result Form ReadKind). HaveForms (line ∷ lines) (form_if r ++ forms_alone lines)) (sym alone)
         (has, again f (λ (g : Refusal) (i : IsFirstFault last (f ∷ before) lines g). none g (inr (ok-none before line lines f e, f, has, i))))
 
--- a text is read as the classes of the forms that its lines have
+-- a text is read as the classes that the forms of its lines make
 abbrev pub IsReadAs : List ℕ → List Token → List PlainClassText → Type 0
-IsReadAs text tokens classes = ((f : Refusal) → IsFaultOfText text tokens f → ⊥) × (forms : List Form) × HaveForms (lines_after text [] tokens) forms × (classes ≡ classes_of forms)
+IsReadAs text tokens classes = ((f : Refusal) → IsFaultOfText text tokens f → ⊥) × (forms : List Form) × HaveForms (lines_after text [] tokens) forms × AreClassesOf forms classes
 
-pub read-forms : (text : List ℕ) (tokens : List Token) (classes : List PlainClassText) → (reading text tokens ≡ Ok classes) ↔ IsReadAs text tokens classes
-read-forms text tokens classes = (
+pub read-classes : (text : List ℕ) (tokens : List Token) (classes : List PlainClassText) → (reading text tokens ≡ Ok classes) ↔ IsReadAs text tokens classes
+read-classes text tokens classes = (
   (λ (e : reading text tokens ≡ Ok classes).
       let r = (read-faultless text tokens classes).0 e in
-      (r.0, forms_alone (lines_after text [] tokens), have-forms (last_line tokens) [] (lines_after text [] tokens) r.0, r.1)),
-  (λ (h : IsReadAs text tokens classes). (read-faultless text tokens classes).1 (h.0, h.3 ∙ ap classes_of (forms-are (lines_after text [] tokens) h.1 h.2))),
+      let forms : List Form = forms_alone (lines_after text [] tokens) in
+      (r.0, forms, have-forms (last_line tokens) [] (lines_after text [] tokens) r.0, (classes-made forms classes).0 r.1)),
+  (λ (h : IsReadAs text tokens classes). (read-faultless text tokens classes).1 (h.0, (classes-made h.1 classes).1 h.3 ∙ ap classes_of (forms-are (lines_after text [] tokens) h.1 h.2))),
 )

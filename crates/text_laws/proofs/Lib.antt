@@ -47,4 +47,5 @@ pub mod Standing
 pub mod LineRules
 pub mod FirstFault
 pub mod LeastOfText
+pub mod ClassRules
 pub mod HaveForms

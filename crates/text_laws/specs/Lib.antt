@@ -6,3 +6,4 @@ pub mod LineFaults
 pub mod Tokens
 pub mod WordRules
 pub mod LineRules
+pub mod ClassRules

@@ -16,6 +16,7 @@ ghost use Rattle.jasmin_reader.specs.Grammar.{form_among};
 ghost use Rattle.jasmin_lines.specs.Lexemes.{PlainLine, lines_after};
 ghost use Rattle.jasmin_lines.specs.Plain.{PlainClassText};
 ghost use Rattle.jasmin_reader.specs.Reading.{reading};
+ghost use Rattle.text_laws.specs.ClassRules.{AreClassesOf};
 ghost use Rattle.text_laws.specs.LineFaults.{IsFirst, forms_alone, line_faults};
 ghost use Rattle.text_laws.specs.LineRules.{HasFault, IsLeast, HasNone, IsFaultOfText, IsLeastOfText, state_after};
 ghost use Rattle.text_laws.specs.Sizes.{IsSmall, is_quotable};
@@ -78,11 +79,17 @@ pub fn named_fault_is_least()
 {}
 
 /// What a line says is its form by the rules on its words, which are the rules of its faults too: it has one exactly where it
-/// has no fault, and no other. A text is read exactly where no line has a fault, and then its classes are those of the forms
-/// that its lines have by the rules.
+/// has no fault, and no other. A text is read exactly where no line has a fault, and then its classes are those that the forms
+/// of its lines make by the rules.
 pub fn lines_have_forms()
     ensures alone { (n : ℕ) (words : List Lexeme) (f : Form) → (form_of n words ≡ Ok f) ↔ HasForm n words f }
     ensures one { (n : ℕ) (words : List Lexeme) (f g : Form) → HasForm n words f → HasForm n words g → f ≡ g }
     ensures some { (n : ℕ) (words : List Lexeme) → ((f : Form) × HasForm n words f) ↔ HasNone (IsSpoiled words) }
-    ensures read { (text : List ℕ) (tokens : List Token) (classes : List PlainClassText) → (reading text tokens ≡ Ok classes) ↔ (((f : Refusal) → IsFaultOfText text tokens f → ⊥) × (forms : List Form) × HaveForms (lines_after text [] tokens) forms × (classes ≡ classes_of forms)) }
+    ensures read { (text : List ℕ) (tokens : List Token) (classes : List PlainClassText) → (reading text tokens ≡ Ok classes) ↔ (((f : Refusal) → IsFaultOfText text tokens f → ⊥) × (forms : List Form) × HaveForms (lines_after text [] tokens) forms × AreClassesOf forms classes) }
+{}
+
+/// Forms of lines, whatever they are, are put together as the classes that they make by the rules: by what each line begins, and
+/// by which lines after it belong to that.
+pub fn forms_make_classes()
+    ensures { (forms : List Form) (classes : List PlainClassText) → (classes ≡ classes_of forms) ↔ AreClassesOf forms classes }
 {}
