@@ -12,7 +12,7 @@ use Rattle.jasmin_lines.specs.Lexemes.{PlainLine, lines_after}
 use Rattle.jasmin_lines.specs.Plain.{PlainClassText}
 use Rattle.jasmin_reader.specs.Reading.{last_line, reading}
 use Rattle.text_laws.specs.LineFaults.{form_alone, form_if, forms_alone, begun_after, fault_of, faults_behind, line_faults, IsFirst}
-use Rattle.text_laws.specs.LineRules.{HasFault, IsLeast, HasNone, IsFirstFault, IsFaultOfText, state_after}
+use Rattle.text_laws.specs.LineRules.{HasFault, IsLeast, HasNone, IsFirstFault, IsLastLine, IsFaultOfText, state_after}
 use Rattle.text_laws.specs.WordRules.{HasForm}
 use Rattle.text_laws.proofs.LineForms.{form-related, said-form}
 use Rattle.text_laws.proofs.LineRules.{err-least, ok-none, least-err, none-ok}
@@ -81,12 +81,27 @@ fault-first last before (line ∷ lines) f (inr h) =
     (subst (λ (r : Result Form ReadKind). IsFirst (next_faults last before line lines r) f) (sym good.1)
     (subst (λ (fs : List Form). IsFirst (faults_behind last (state_after fs) lines) f) (sym (said-form before line h.1 h.2)) (fault-first last (h.1 ∷ before) lines f h.3)))
 
+-- ---- the last line
+
+pub last-so : (tokens : List Token) → IsLastLine tokens (last_line tokens)
+last-so [] = refl
+last-so (t ∷ []) = refl
+last-so (t ∷ u ∷ ts) = last-so (u ∷ ts)
+
+pub last-is : (tokens : List Token) (n : ℕ) → IsLastLine tokens n → n ≡ last_line tokens
+last-is [] n h = h
+last-is (t ∷ []) n h = h
+last-is (t ∷ u ∷ ts) n h = last-is (u ∷ ts) n h
+
+pub of-text : (text : List ℕ) (tokens : List Token) (f : Refusal) → IsFaultOfText text tokens f → IsFirstFault (last_line tokens) [] (lines_after text [] tokens) f
+of-text text tokens f h = subst (λ (n : ℕ). IsFirstFault n [] (lines_after text [] tokens) f) (last-is tokens h.0 h.1) h.2
+
 -- ---- the law
 
 pub refused-first : (text : List ℕ) (tokens : List Token) (f : Refusal) → (reading text tokens ≡ Err f) ↔ IsFaultOfText text tokens f
 refused-first text tokens f = (
-  (λ (e : reading text tokens ≡ Err f). first-fault (last_line tokens) [] (lines_after text [] tokens) f ((named-first text tokens f).0 e)),
-  (λ (h : IsFaultOfText text tokens f). (named-first text tokens f).1 (fault-first (last_line tokens) [] (lines_after text [] tokens) f h)),
+  (λ (e : reading text tokens ≡ Err f). (last_line tokens, last-so tokens, first-fault (last_line tokens) [] (lines_after text [] tokens) f ((named-first text tokens f).0 e))),
+  (λ (h : IsFaultOfText text tokens f). (named-first text tokens f).1 (fault-first (last_line tokens) [] (lines_after text [] tokens) f (of-text text tokens f h))),
 )
 
 none-listed : (faults : List Refusal) → ((f : Refusal) → IsFirst faults f → ⊥) → faults ≡ []
@@ -100,9 +115,9 @@ pub read-faultless : (text : List ℕ) (tokens : List Token) (classes : List Pla
 read-faultless text tokens classes = (
   (λ (e : reading text tokens ≡ Ok classes).
       let r = (read-none text tokens classes).0 e in
-      ((λ (f : Refusal) (h : IsFaultOfText text tokens f). none-first (line_faults text tokens) f r.0 (fault-first (last_line tokens) [] (lines_after text [] tokens) f h)), r.1)),
+      ((λ (f : Refusal) (h : IsFaultOfText text tokens f). none-first (line_faults text tokens) f r.0 (fault-first (last_line tokens) [] (lines_after text [] tokens) f (of-text text tokens f h))), r.1)),
   (λ (h : ((f : Refusal) → IsFaultOfText text tokens f → ⊥) × (classes ≡ classes_of (forms_alone (lines_after text [] tokens)))).
-      (read-none text tokens classes).1 (none-listed (line_faults text tokens) (λ (f : Refusal) (i : IsFirst (line_faults text tokens) f). h.0 f (first-fault (last_line tokens) [] (lines_after text [] tokens) f i)), h.1)),
+      (read-none text tokens classes).1 (none-listed (line_faults text tokens) (λ (f : Refusal) (i : IsFirst (line_faults text tokens) f). h.0 f (last_line tokens, last-so tokens, first-fault (last_line tokens) [] (lines_after text [] tokens) f i)), h.1)),
 )
 
 pub line-named : (before : List Form) (line : PlainLine) (behind : List PlainLine) (kind : ReadKind) → (form_among (state_after before) line behind ≡ Err kind) ↔ IsLeast (HasFault before line behind) kind

@@ -15,7 +15,7 @@ use Rattle.text_laws.specs.LineFaults.{form_alone, form_if, forms_alone}
 use Rattle.text_laws.specs.LineRules.{IsFirstFault, IsFaultOfText, state_after}
 use Rattle.text_laws.specs.WordRules.{HasForm, HaveForms}
 use Rattle.text_laws.proofs.ClassRules.{classes-made}
-use Rattle.text_laws.proofs.FirstFault.{read-faultless}
+use Rattle.text_laws.proofs.FirstFault.{last-so, read-faultless}
 use Rattle.text_laws.proofs.LineForms.{has-form, form-related}
 use Rattle.text_laws.proofs.LineRules.{err-least, ok-none}
 use Rattle.text_laws.proofs.NamedLine.{among-alone}
@@ -48,6 +48,6 @@ read-classes text tokens classes = (
   (λ (e : reading text tokens ≡ Ok classes).
       let r = (read-faultless text tokens classes).0 e in
       let forms : List Form = forms_alone (lines_after text [] tokens) in
-      (r.0, forms, have-forms (last_line tokens) [] (lines_after text [] tokens) r.0, (classes-made forms classes).0 r.1)),
+      (r.0, forms, have-forms (last_line tokens) [] (lines_after text [] tokens) (λ (g : Refusal) (i : IsFirstFault (last_line tokens) [] (lines_after text [] tokens) g). r.0 g (last_line tokens, last-so tokens, i)), (classes-made forms classes).0 r.1)),
   (λ (h : IsReadAs text tokens classes). (read-faultless text tokens classes).1 (h.0, (classes-made h.1 classes).1 h.3 ∙ ap classes_of (forms-are (lines_after text [] tokens) h.1 h.2))),
 )

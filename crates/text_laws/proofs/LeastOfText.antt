@@ -20,11 +20,11 @@ use Rattle.jasmin_lines.specs.Faults.{kind_number}
 use Rattle.jasmin_reader.specs.Grammar.{form_among}
 use Rattle.jasmin_lines.specs.Lexemes.{PlainLine, lexeme_by, lexeme_of, filled, lines_after}
 use Rattle.jasmin_reader.specs.Reading.{last_line, reading}
-use Rattle.text_laws.specs.LineRules.{is_class, is_method, is_stack_limit, is_locals_limit, comes_after_super, ends_method, Stands, IsMethodOpen, IsSuperSaid, IsSuperToCome, SetsAgain, IsMisplaced, OfMethod, OfClass, BeforeSuper, LabelAgain, NeverEnded, SuperAgain, StackAgain, LocalsAgain, HasFault, BeforeClasses, ByItself, Misplaced, IsLeast, HasNone, IsFirstFault, IsFaultOfText, AreSaidWith, SaysForm, IsAnyFault, IsNoLater, IsLeastOfText, state_after}
+use Rattle.text_laws.specs.LineRules.{is_class, is_method, is_stack_limit, is_locals_limit, comes_after_super, ends_method, Stands, IsMethodOpen, IsSuperSaid, IsSuperToCome, SetsAgain, IsMisplaced, OfMethod, OfClass, BeforeSuper, LabelAgain, NeverEnded, SuperAgain, StackAgain, LocalsAgain, HasFault, BeforeClasses, ByItself, Misplaced, IsLeast, HasNone, IsFirstFault, IsFaultOfText, AreSaidWith, SaysForm, IsAnyFault, IsAnyOfText, IsNoLater, IsLeastOfText, state_after}
 use Rattle.text_laws.specs.Tokens.{is_feed, lines_ended, AreTokensAfter}
 use Rattle.text_laws.specs.WordRules.{HasForm, IsSpoiled, UnknownDirective, WrongWords, WrongName, UnknownMnemonic, WrongOperands, WrongOperandName, WrongLabel}
 use Rattle.text_laws.proofs.FaultTests.{same-kind}
-use Rattle.text_laws.proofs.FirstFault.{refused-first}
+use Rattle.text_laws.proofs.FirstFault.{last-so, last-is, of-text, refused-first}
 use Rattle.text_laws.proofs.LineForms.{form-related, said-with}
 use Rattle.text_laws.proofs.LineOrder.{Between, lines-between, tokens-ascend}
 use Rattle.text_laws.proofs.LineRules.{err-least, ok-none}
@@ -243,13 +243,16 @@ any-first last before (line ∷ lines) g i = by_form (λ (said : List Form) (j :
 
 -- ---- the law
 
+any-of-text : (text : List ℕ) (tokens : List Token) (f : Refusal) → IsAnyOfText text tokens f → IsAnyFault (last_line tokens) [] (lines_after text [] tokens) f
+any-of-text text tokens f h = subst (λ (n : ℕ). IsAnyFault n [] (lines_after text [] tokens) f) (last-is tokens h.0 h.1) h.2
+
 least-first : (text : List ℕ) (tokens : List Token) (f : Refusal) → tokens_of text ≡ Ok tokens → IsFaultOfText text tokens f → IsLeastOfText text tokens f
 least-first text tokens f e h =
     let lines : List PlainLine = lines_after text [] tokens in
     let climb : Climb 0 tokens = climb-lower 0 1 tokens (omega arith) (climbs [] text tokens (related text tokens e)) in
     record {
-      holds = first-any (last_line tokens) [] lines f h;
-      least = λ g i. first-least 0 (last_line tokens) [] lines f g (strict-lines text 0 [] tokens climb) (lines-between text 0 [] tokens (tokens-ascend text tokens e)) (λ o _. o) h i;
+      holds = (last_line tokens, last-so tokens, first-any (last_line tokens) [] lines f (of-text text tokens f h));
+      least = λ g i. first-least 0 (last_line tokens) [] lines f g (strict-lines text 0 [] tokens climb) (lines-between text 0 [] tokens (tokens-ascend text tokens e)) (λ o _. o) (of-text text tokens f h) (any-of-text text tokens g i);
     }
 
 abbrev refusal : ReadKind → ℕ → Refusal
@@ -268,8 +271,9 @@ pub refused-least : (text : List ℕ) (tokens : List Token) (f : Refusal) → to
 refused-least text tokens f e = (
   (λ (r : reading text tokens ≡ Err f). least-first text tokens f e ((refused-first text tokens f).0 r)),
   (λ (h : IsLeastOfText text tokens f).
-      let g = any-first (last_line tokens) [] (lines_after text [] tokens) f h.holds in
-      let l : IsLeastOfText text tokens g.0 = least-first text tokens g.0 e g.1 in
+      let g = any-first (last_line tokens) [] (lines_after text [] tokens) f (any-of-text text tokens f h.holds) in
+      let there : IsFaultOfText text tokens g.0 = (last_line tokens, last-so tokens, g.1) in
+      let l : IsLeastOfText text tokens g.0 = least-first text tokens g.0 e there in
       let same : g.0 ≡ f = same-fault g.0 f (l.least f h.holds) (h.least g.0 l.holds) in
-      (refused-first text tokens f).1 (subst (IsFaultOfText text tokens) same g.1)),
+      (refused-first text tokens f).1 (subst (IsFaultOfText text tokens) same there)),
 )

@@ -13,7 +13,6 @@ use Rattle.jasmin_lines.specs.declared.lexeme.Lexeme.TheVariants as lexeme
 use Rattle.jasmin_lines.specs.Faults.{kind_number}
 use Rattle.jasmin_reader.specs.Grammar.{PlainState, nothing_begun, next_state}
 use Rattle.jasmin_lines.specs.Lexemes.{PlainLine, lines_after}
-use Rattle.jasmin_reader.specs.Reading.{last_line}
 use Rattle.text_laws.specs.WordRules.{IsSpoiled, HasForm}
 
 -- ---- lines
@@ -172,8 +171,14 @@ IsFirstFault last before (line ∷ lines) f =
     (IsLeast (HasFault before line lines) f.kind × (f.line ≡ line.number))
     ⊎ (HasNone (HasFault before line lines) × (said : Form) × HasForm line.number line.words said × IsFirstFault last (said ∷ before) lines f)
 
+-- the number of a text's last line is that of its last token, and 0 where it has none
+abbrev pub IsLastLine : List Token → ℕ → Type 0
+IsLastLine [] n = n ≡ 0
+IsLastLine (t ∷ []) n = n ≡ t.line
+IsLastLine (t ∷ u ∷ ts) n = IsLastLine (u ∷ ts) n
+
 abbrev pub IsFaultOfText : List ℕ → List Token → Refusal → Type 0
-IsFaultOfText text tokens f = IsFirstFault (last_line tokens) [] (lines_after text [] tokens) f
+IsFaultOfText text tokens f = (last : ℕ) × IsLastLine tokens last × IsFirstFault last [] (lines_after text [] tokens) f
 
 -- What the lines up to this one say, the nearest first. A line that has no form says nothing.
 pub data AreSaidWith (before : List Form) (line : PlainLine) (said : List Form) : Type 0 where
@@ -187,14 +192,17 @@ IsAnyFault last before (line ∷ lines) f =
     (HasFault before line lines f.kind × (f.line ≡ line.number))
     ⊎ ((said : List Form) × AreSaidWith before line said × IsAnyFault last said lines f)
 
+abbrev pub IsAnyOfText : List ℕ → List Token → Refusal → Type 0
+IsAnyOfText text tokens f = (last : ℕ) × IsLastLine tokens last × IsAnyFault last [] (lines_after text [] tokens) f
+
 -- at an earlier line, or at the same with no greater kind
 abbrev pub IsNoLater : Refusal → Refusal → Type 0
 IsNoLater f g = (f.line < g.line) ⊎ ((f.line ≡ g.line) × (kind_number f.kind ≤ kind_number g.kind))
 
 -- the least of all faults of a text, by the line and then by the kind
 pub record IsLeastOfText (text : List ℕ) (tokens : List Token) (f : Refusal) : Type 0 where
-  pub holds : IsAnyFault (last_line tokens) [] (lines_after text [] tokens) f
-  pub least : (g : Refusal) → IsAnyFault (last_line tokens) [] (lines_after text [] tokens) g → IsNoLater f g
+  pub holds : IsAnyOfText text tokens f
+  pub least : (g : Refusal) → IsAnyOfText text tokens g → IsNoLater f g
 
 -- ---- what the code keeps of the lines before
 

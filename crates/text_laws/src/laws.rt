@@ -88,8 +88,8 @@ pub fn lines_have_forms()
     ensures read { (text : List ℕ) (tokens : List Token) (classes : List PlainClassText) → (reading text tokens ≡ Ok classes) ↔ (((f : Refusal) → IsFaultOfText text tokens f → ⊥) × (forms : List Form) × HaveForms (lines_after text [] tokens) forms × AreClassesOf forms classes) }
 {}
 
-/// Forms of lines, whatever they are, are put together as the classes that they make by the rules: by what each line begins, and
-/// by which lines after it belong to that.
+/// Forms of lines, whatever they are, are put together as the classes that they make by the rules: by what each line begins,
+/// and by which lines after it belong to that.
 pub fn forms_make_classes()
     ensures { (forms : List Form) (classes : List PlainClassText) → (classes ≡ classes_of forms) ↔ AreClassesOf forms classes }
 {}
