@@ -14,10 +14,11 @@ ghost use Rattle.event_machine.specs.Turns.{AddsAtMostOne, IsNext};
 
 use crate::threads::{copy_all, first_thread, go_on, operation_at, start};
 use local_machine::Local;
-use shared_world::{World, start_of};
+use shared_world::World;
 use std::alloc::Global;
 use std::marker::Model;
 use vm_model::{End, Entry, Fault, NoMemory, Op, Plain, Reply};
+use world_start::start_of;
 
 /// A machine that runs the threads of a program, one event at a time.
 #[derive(Drop)]

@@ -14,12 +14,12 @@ use event_machine::Machine;
 use gate_core::Meeting;
 use record_gate::RecordGate;
 use schedule_log::Folding;
-use shared_world::start_of;
 use std::alloc::Global;
 use std::sync::Wait;
 use std::thread::Threads;
 use thread_driver::{Recording, record_on};
 use vm_model::{NoMemory, Plain};
+use world_start::start_of;
 
 /// The thread of the last event, and the first thread before any.
 fn last_thread(machine: &Machine) -> u32

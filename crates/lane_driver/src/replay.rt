@@ -13,12 +13,12 @@ use event_machine::Machine;
 use gate_core::Meeting;
 use replay_gate::ReplayGate;
 use schedule_log::Log;
-use shared_world::start_of;
 use std::alloc::Global;
 use std::sync::Wait;
 use std::thread::Threads;
 use thread_driver::{Recording, ReplayFault, replay_on};
 use vm_model::{NoMemory, Plain};
+use world_start::start_of;
 
 /// The machine after the log's first events, those that the lanes made.
 fn machine_of_log<R: Threads + Wait + Sync, M: Meeting>(

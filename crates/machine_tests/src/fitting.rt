@@ -3,9 +3,9 @@ use crate::worlds::{
     ARRAY_VALUE, GET_NEXT, LONGER_ARRAY, OBJECT, PLACE, PLACE_VALUE, START_WORKER, WORKER,
     WORKER_VALUE, program,
 };
-use shared_world::Start;
 use std::alloc::Global;
 use vm_model::{FaultKind, NoMemory, Op, Reply, Value};
+use world_start::Start;
 
 const FIT: [(Op, Reply); 10] = [
     (Op::GetStatic { slot: 0 }, Reply::Got(Value::Int(1))),

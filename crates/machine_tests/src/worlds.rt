@@ -1,12 +1,13 @@
 // Operations tried on a world one after another, with what each is to answer.
 ghost use Rattle.std.specs.Prelude.{◌<◌, ◌^◌};
 
-use shared_world::{ApplyFault, LockState, RowState, Start, World, start_of};
+use shared_world::{ApplyFault, LockState, RowState, World};
 use std::alloc::Global;
 use vm_model::{
     Class, Fault, FaultKind, Field, Kind, Lock, Name, NoMemory, ObjRef, Op, Piece, Plain, Program,
     Reply, StaticSlot, Value,
 };
+use world_start::{Start, start_of};
 
 pub const WORKER: u32 = 32;
 

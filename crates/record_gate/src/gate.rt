@@ -6,10 +6,11 @@ use crate::seat::RecordSeat;
 use crate::steps;
 use atomic_table::Table;
 use gate_core::Begun;
-use shared_world::{Start, World};
+use shared_world::World;
 use std::alloc::Global;
 use std::marker::Model;
 use vm_model::{NoMemory, Op};
+use world_start::Start;
 
 pub(crate) type GateTable = Table<Option<World>, RecordView, Setup, OneHistory, Global>;
 

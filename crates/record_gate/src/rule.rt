@@ -1,7 +1,8 @@
 use atomic_table::TableRule;
-use shared_world::{Start, World};
+use shared_world::World;
 use std::collections::LinkedList;
 use vm_model::Entry;
+use world_start::Start;
 
 /// What a gate is told once, when it is made: the program's start, the budget of events, and the number of lanes.
 #[derive(Drop)]

@@ -7,11 +7,11 @@ ghost use Rattle.record_gate.specs.Seats.{IsSeatOf, Keeps};
 
 use crate::{Committing, RecordGate, RecordSeat};
 use gate_core::{Begun, Gate, Offer};
-use shared_world::{Start, start_of};
 use std::alloc::Global;
 use std::test::Fail;
 use std::thread::{Threads, join_mut};
 use vm_model::{Class, Entry, Name, NoMemory, ObjRef, Op, Plain, Program, Reply, Value};
+use world_start::{Start, start_of};
 
 const WORKER: u32 = 32;
 

@@ -17,10 +17,11 @@ use crate::view::{ReplayView, Terms};
 use atomic_table::{Seat, Table};
 use gate_core::Begun;
 use schedule_log::Log;
-use shared_world::{Start, World};
+use shared_world::World;
 use std::alloc::Global;
 use std::marker::{Brand, Model};
 use vm_model::{NoMemory, Op};
+use world_start::Start;
 
 /// The clock and the world of a replay, for lanes that make the events of a log again in its order. The interval of the log
 /// that has the clock is the right to the world, so no lane waits for a lock: a thread that comes too early is told so.

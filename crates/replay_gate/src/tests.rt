@@ -5,11 +5,12 @@ ghost use Rattle.replay_gate.specs.Gates.{IsSeatOf};
 use crate::{ReplayGate, ReplaySeat};
 use gate_core::{Begun, Gate, Offer, WorldGate};
 use schedule_log::{Log, decode};
-use shared_world::{Start, World, start_of};
+use shared_world::World;
 use std::alloc::Global;
 use std::test::Fail;
 use std::thread::{Threads, join_mut};
 use vm_model::{Class, Name, NoMemory, ObjRef, Op, Plain, Program, Reply, Value};
+use world_start::{Start, start_of};
 
 const WORKER: u32 = 32;
 

@@ -1,9 +1,9 @@
 //! What is known at the gate, for the proofs alone.
 
 use schedule_log::Log;
-use shared_world::Start;
 use std::collections::LinkedList;
 use vm_model::Entry;
+use world_start::Start;
 
 /// What a gate was made with: the start of the program, the log that is replayed, and the number of lanes, from 1 to 16.
 #[derive(Drop)]

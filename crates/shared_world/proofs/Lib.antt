@@ -1,5 +1,4 @@
 pub mod Everywhere
 pub mod Keeping
 pub mod Legal
-pub mod Chains
 pub mod Fits

@@ -1,23 +1,21 @@
 // When an operation may be done.
 ghost use Rattle.std.specs.Prelude.{◌≡◌};
+ghost use Rattle.machine_model.specs.Operations.{is_piece as is_known_piece};
 
 use crate::rows;
-use crate::start::Start;
 use crate::state::State;
 use vm_model::{ObjRef, Op, Piece, Value};
+use world_start::Start;
 
-impl Start {
-    ghost use Rattle.machine_model.specs.Operations.{is_piece};
-
-    fn is_piece(&self, piece: Piece) -> bool
-        ensures { result ≡ is_piece self.now piece }
-    {
-        match piece {
-            Piece::Int(_) => true,
-            Piece::Text(text) => self.has_text(text),
-            Piece::Null => true,
-            Piece::Nothing => true,
-        }
+/// Whether there is what is to be printed.
+fn is_piece(start: &Start, piece: Piece) -> bool
+    ensures { result ≡ is_known_piece start.now piece }
+{
+    match piece {
+        Piece::Int(_) => true,
+        Piece::Text(text) => start.has_text(text),
+        Piece::Null => true,
+        Piece::Nothing => true,
     }
 }
 
@@ -100,7 +98,7 @@ impl State {
                     && (self.is_any_object(obj) && !rows::is_running(self.rows(), obj))
             }
             Op::Print { piece, .. } => {
-                rows::is_ready(self.rows(), thread) && start.is_piece(piece)
+                rows::is_ready(self.rows(), thread) && is_piece(start, piece)
             }
             Op::Yield => rows::is_ready(self.rows(), thread),
             Op::Tick => rows::is_ready(self.rows(), thread),

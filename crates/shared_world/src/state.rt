@@ -5,7 +5,6 @@ ghost use Rattle.machine_model.specs.Operations.{got as got_of, first_of};
 
 use crate::heap::{Heap, Item};
 use crate::rows;
-use crate::start::Start;
 use machine_model::{Kept, Row, RowState};
 use monitor_table::{MonitorTable, Owned, Waited};
 use std::alloc::Global;
@@ -14,6 +13,7 @@ use vm_model::{
     Fault, FaultKind, Lock, MOST_OUTPUT_BYTES, MOST_THREADS, NoMemory, ObjRef, Op, Piece, Reply,
     Value,
 };
+use world_start::Start;
 
 /// The shared state: the statics, the objects and arrays, their monitors, the threads that were started, what was printed,
 /// and the fault that ended the run, if one did.

@@ -4,12 +4,12 @@ ghost use Rattle.std.specs.Option.{option_map};
 ghost use Rattle.vm_model.specs.declared.limits.TheConstants.{MOST_EVENTS, MOST_THREADS};
 
 use crate::rows;
-use crate::start::Start;
 use crate::state::State;
 use machine_model::RowState;
 use std::alloc::Global;
 use std::marker::Model;
 use vm_model::{Entry, Fault, Lock, NoMemory, ObjRef, Op, Reply, Value};
+use world_start::Start;
 
 /// Why an operation was not done. Nothing was changed.
 #[derive(Clone, Copy, Debug, PartialEq, Eq)]

@@ -1,5 +1,5 @@
 use Rattle.std.proofs.Common.{◌≡◌, take}
-use Rattle.shared_world.proofs.copying.fields.Given as goal
+use Rattle.world_start.proofs.copying.names.Given as goal
 
 abbrev pub invariant-loop-item : goal.invariant-loop-item
 invariant-loop-item l = l.copies.items ≡ take l.item-index l.items

@@ -1,3 +1,4 @@
+// The declarations that the world knows of its program, and what they say of each class, static and text constant.
 ghost use Rattle.std.specs.Prelude.{◌≡◌, ◌++◌, ℕ, nat_lt, length, map, slice_get, if◌then◌else◌, [], ◌∷◌, IfOk};
 ghost use Rattle.std.specs.Option.{option_copied};
 ghost use Rattle.machine_model.specs.Declarations.{declarations_of};
@@ -5,11 +6,12 @@ ghost use Rattle.machine_model.specs.Kinds.{first_value as first_value_of, kind_
 ghost use Rattle.vm_model.specs.declared.value.Value.TheVariants as value;
 
 use crate::copying;
-use crate::kinds::first_value;
-use built_in_classes::{BUILT_IN_COUNT, RUNNABLE, THREAD};
+use crate::kinds::{first_value, is_args, is_null, kind_of};
+use built_in_classes::{BUILT_IN_COUNT, RUNNABLE};
+use class_kinds::user_class;
 use std::alloc::Global;
 use std::marker::Model;
-use vm_model::{Class, FIRST_USER_CLASS, Field, Kind, Name, NoMemory, Plain, StaticSlot, Value};
+use vm_model::{Class, Field, Kind, Name, NoMemory, Plain, StaticSlot, Value};
 
 /// What the world knows of the program whose threads share it: the classes with their fields, the statics with their first
 /// values, and the text constants. It never changes.
@@ -54,7 +56,7 @@ fn with_first_values(values: Vec<Value>, fields: &[Field]) -> Result<Vec<Value>,
 
 impl Start {
     ghost use Rattle.machine_model.specs.Declarations.{class_at, static_at, text_at};
-    ghost use Rattle.machine_model.specs.Kinds.{is_class, is_thread_class, is_runnable_class, static_kind, field_kinds, declared_kinds};
+    ghost use Rattle.machine_model.specs.Kinds.{is_class, is_thread_class, is_runnable_class, is_assignable, fits, fits_declared, static_kind, field_kinds, declared_kinds};
     ghost use Rattle.machine_model.specs.Operations.{kind_at};
     ghost use Rattle.machine_model.specs.Shared.{start_of_slot};
 
@@ -76,15 +78,11 @@ impl Start {
         self.classes.len()
     }
 
-    /// The user class of this number.
+    /// The user class of this number, if there is one. The first has the number `FIRST_USER_CLASS`.
     pub fn class(&self, class: u32) -> Option<&Class>
         ensures { option_copied result ≡ class_at self.now class }
     {
-        if class < FIRST_USER_CLASS {
-            None
-        } else {
-            self.classes.get((class - FIRST_USER_CLASS) as usize)
-        }
+        user_class(self.classes.as_slice(), class)
     }
 
     /// Whether this is the number of a class, built in or not.
@@ -98,24 +96,39 @@ impl Start {
     pub fn is_thread(&self, class: u32) -> bool
         ensures { result ≡ is_thread_class self.now class }
     {
-        if class == THREAD {
-            return true;
-        }
-        match self.class(class) {
-            Some(found) => found.is_thread,
-            None => false,
-        }
+        class_kinds::is_thread(self.classes.as_slice(), class)
     }
 
     /// Whether an object of this class may stand for Runnable.
     pub fn is_runnable(&self, class: u32) -> bool
         ensures { result ≡ is_runnable_class self.now class }
     {
-        if class == THREAD {
-            return true;
-        }
-        match self.class(class) {
-            Some(found) => found.is_runnable || found.is_thread,
+        class_kinds::is_runnable(self.classes.as_slice(), class)
+    }
+
+    /// Whether a value of the first kind may stand where the second is wanted.
+    #[tactic(auto, using(class_kinds::proofs::Alone::same_assignable))]
+    fn is_assignable(&self, from: Kind, to: Kind) -> bool
+        ensures { result ≡ is_assignable self.now from to }
+    {
+        class_kinds::is_assignable(self.classes.as_slice(), from, to)
+    }
+
+    /// Whether the value may be kept where this kind is declared; null may be too where it is the kind of the argument of
+    /// `main`.
+    pub fn fits_kind(&self, value: Value, kind: Kind) -> bool
+        ensures { result ≡ fits self.now value kind }
+    {
+        self.is_assignable(kind_of(value), kind) || is_null(value) && is_args(kind)
+    }
+
+    /// Whether the value may be kept at a place that is declared so. At one that isn't declared, whose kind is none, nothing
+    /// may be kept.
+    pub fn fits_declared(&self, value: Value, kind: Option<Kind>) -> bool
+        ensures { result ≡ fits_declared self.now value kind }
+    {
+        match kind {
+            Some(kind) => self.fits_kind(value, kind),
             None => false,
         }
     }
@@ -155,7 +168,7 @@ impl Start {
         self.declared_kind(class, place as usize - 1)
     }
 
-    /// What the fields of a new object of this class hold.
+    /// What the fields of a new object of this class hold. Of a thread the first is its Runnable target.
     pub fn first_fields(&self, alloc: Global, class: u32) -> Result<Vec<Value>, NoMemory>
         ensures { IfOk result (λ values. values.items ≡ map first_value_of (field_kinds self.now class)) }
     {
