@@ -10,11 +10,11 @@ use Rattle.machine_model.specs.Effect.{action}
 use Rattle.machine_model.specs.LocalStep as model
 use Rattle.machine_model.specs.LocalStep.{absorb, after_outcome, completed, completes, pending_operation}
 use Rattle.local_machine.specs.declared.completion.Ready.{Ready}
-use Rattle.local_machine.specs.declared.frame.Frame as code
+use Rattle.frame_actions.specs.declared.frame.Frame as code
 use Rattle.local_machine.specs.declared.phase.Phase.{Phase}
 use Rattle.local_machine.specs.declared.phase.Phase.TheVariants as phase
 use Rattle.local_machine.specs.declared.reply.Outcome.{Outcome}
-use Rattle.local_machine.specs.Acts.{acted_of, plain}
+use Rattle.frame_actions.specs.Acts.{acted_of, plain}
 use Rattle.local_machine.specs.Completions.{Completion, completed_by, completion, completion_with}
 use Rattle.local_machine.specs.Fields.{callers, completion_of}
 use Rattle.local_machine.specs.LocalView.{IsReady, LocalView, is_running}

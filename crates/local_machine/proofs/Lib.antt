@@ -1,4 +1,3 @@
-pub mod Reversed
 pub mod Small
 pub mod Stands
 pub mod Settled

@@ -5,10 +5,10 @@ use Rattle.vm_model.specs.Program.{PlainProgram}
 use Rattle.machine_model.specs.Frames.{Frame}
 use Rattle.machine_model.specs.Operands.{Action, Goes, Calls, Gives, Asks, Fails, Undefined}
 use Rattle.machine_model.specs.LocalStep.{moved}
-use Rattle.local_machine.specs.declared.acted.Acted.{Acted}
-use Rattle.local_machine.specs.declared.acted.Acted.TheVariants as acted
-use Rattle.local_machine.specs.declared.frame.Frame as code
-use Rattle.local_machine.specs.Acts.{acted_of, after}
+use Rattle.frame_actions.specs.declared.acted.Acted.{Acted}
+use Rattle.frame_actions.specs.declared.acted.Acted.TheVariants as acted
+use Rattle.frame_actions.specs.declared.frame.Frame as code
+use Rattle.frame_actions.specs.Acts.{acted_of, after}
 use Rattle.local_machine.specs.Fields.{callers}
 use Rattle.local_machine.specs.Steps.{followed}
 

@@ -7,9 +7,9 @@ use Rattle.machine_model.specs.Frames.{Frame, LocalState, Running, Plain, Waitin
 use Rattle.machine_model.specs.Operands.{Action, Goes, Calls, Gives, Asks, Fails, Undefined}
 use Rattle.machine_model.specs.Effect.{action}
 use Rattle.machine_model.specs.LocalStep.{asked, local_step, moved, tick_or}
-use Rattle.local_machine.specs.declared.acted.Acted.{Acted}
+use Rattle.frame_actions.specs.declared.acted.Acted.{Acted}
 use Rattle.local_machine.specs.declared.completion.Ready.{Ready}
-use Rattle.local_machine.specs.Acts.{acted_of}
+use Rattle.frame_actions.specs.Acts.{acted_of}
 use Rattle.local_machine.specs.Completions.{completion_with}
 use Rattle.local_machine.specs.Fields.{completion_of}
 use Rattle.local_machine.specs.States.{IsAskedBy, IsReached, wanted}

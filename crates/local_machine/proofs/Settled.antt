@@ -4,9 +4,9 @@ use Rattle.vm_model.specs.Program.{PlainProgram}
 use Rattle.machine_model.specs.Frames.{Frame, LocalState, Running, Plain}
 use Rattle.machine_model.specs.Effect.{action}
 use Rattle.machine_model.specs.LocalStep.{local_step, go_on, settled_within}
-use Rattle.local_machine.specs.declared.acted.Acted.{Acted}
-use Rattle.local_machine.specs.declared.acted.Acted.TheVariants as acted
-use Rattle.local_machine.specs.Acts.{acted_of, after}
+use Rattle.frame_actions.specs.declared.acted.Acted.{Acted}
+use Rattle.frame_actions.specs.declared.acted.Acted.TheVariants as acted
+use Rattle.frame_actions.specs.Acts.{acted_of, after}
 use Rattle.local_machine.specs.Further.{after_steps, one_step_more}
 use Rattle.local_machine.specs.LocalView.{one_more, steps_within}
 use Rattle.local_machine.specs.Steps.{IsFollowed, IsOnTheWay, IsSettled, IsTried, IsWalked, LeadsOn, followed}

@@ -2,9 +2,9 @@
 use Rattle.std.proofs.Common.{◌≡◌, ℕ, ◌+◌, ◌<◌, ◌≤◌, ◌^◌, length, ap, arith}
 use Rattle.machine_model.specs.Frames as model
 use Rattle.machine_model.specs.Operands.{Action, Goes, Calls, Gives, Asks, Fails, Undefined}
-use Rattle.local_machine.specs.declared.frame.Frame.{Frame}
-use Rattle.local_machine.specs.Acts.{plain, acted_of, after}
-use Rattle.local_machine.specs.Fields.{HasRoom, Stands}
+use Rattle.frame_actions.specs.declared.frame.Frame.{Frame}
+use Rattle.frame_actions.specs.Acts.{plain, HasRoom, acted_of, after}
+use Rattle.local_machine.specs.Fields.{Stands}
 
 fits : (m : model.Frame) (g : Frame) (room : ℕ) → plain g ≡ m → length m.stack + 2 ≤ room → room ≤ g.stack.room → m.place < 2 ^ 31 → HasRoom g × (g.place < 2 ^ 31)
 fits m g room e h r l =

@@ -6,9 +6,9 @@ use Rattle.machine_model.specs.Frames.{Frame, Plain, Entering, Left, Waiting, Ra
 use Rattle.machine_model.specs.Operands.{jump}
 use Rattle.machine_model.specs.Effect.{action}
 use Rattle.machine_model.specs.LocalStep.{arity_at, first_frame, given_back, with_reply}
-use Rattle.local_machine.specs.declared.acted.Acted.{Acted}
-use Rattle.local_machine.specs.declared.acted.Acted.TheVariants as acted
-use Rattle.local_machine.specs.Acts.{acted_of}
+use Rattle.frame_actions.specs.declared.acted.Acted.{Acted}
+use Rattle.frame_actions.specs.declared.acted.Acted.TheVariants as acted
+use Rattle.frame_actions.specs.Acts.{acted_of}
 
 pub data Completion : Type 0 where
   Nothing : Completion

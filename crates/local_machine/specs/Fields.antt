@@ -1,13 +1,13 @@
 -- The fields of a thread by itself, and what they stand for.
-use Rattle.std.specs.Prelude.{ℕ, ◌+◌, ◌<◌, ◌≤◌, ◌^◌, Bool, true, false, List, [], ◌∷◌, map, reverse, length}
+use Rattle.std.specs.Prelude.{ℕ, ◌<◌, ◌^◌, Bool, true, false, List, [], ◌∷◌, map, reverse}
 use Rattle.std.specs.List.{AllByRecursion}
 use Rattle.machine_model.specs.Frames as model
-use Rattle.local_machine.specs.declared.acted.Acted.{Acted}
-use Rattle.local_machine.specs.declared.acted.Acted.TheVariants as acted
-use Rattle.local_machine.specs.declared.frame.Frame.{Frame}
+use Rattle.frame_actions.specs.declared.acted.Acted.{Acted}
+use Rattle.frame_actions.specs.declared.acted.Acted.TheVariants as acted
+use Rattle.frame_actions.specs.declared.frame.Frame.{Frame}
 use Rattle.local_machine.specs.declared.completion.Completion.{Completion}
 use Rattle.local_machine.specs.declared.completion.Completion.TheVariants as code
-use Rattle.local_machine.specs.Acts.{plain}
+use Rattle.frame_actions.specs.Acts.{plain, HasRoom}
 use Rattle.local_machine.specs.Completions as completions
 
 -- the frames below the top one, the nearest first
@@ -30,9 +30,6 @@ completion_of (code.Calls n callee) = completions.Calls n (plain callee.value)
 completion_of (code.Gives given) = completions.Gives given
 
 -- ---- room
-
-abbrev pub HasRoom : Frame → Type 0
-HasRoom f = length f.stack.values + 2 ≤ f.stack.room
 
 abbrev pub CallerHasRoom : List Frame → Type 0
 CallerHasRoom [] = Unit {0}

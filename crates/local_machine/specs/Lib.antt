@@ -1,6 +1,3 @@
-pub mod StackView
-pub mod Families
-pub mod Acts
 pub mod Completions
 pub mod LocalView
 pub mod Further

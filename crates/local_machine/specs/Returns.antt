@@ -3,7 +3,7 @@ use Rattle.std.specs.Prelude.{◌≡◌, Bool, true, false, List, [], ◌∷◌,
 use Rattle.vm_model.specs.declared.value.Value.{Value}
 use Rattle.machine_model.specs.Frames as model
 use Rattle.machine_model.specs.LocalStep.{return_frames}
-use Rattle.local_machine.specs.declared.frame.Frame.{Frame}
+use Rattle.frame_actions.specs.declared.frame.Frame.{Frame}
 use Rattle.local_machine.specs.Fields.{callers, frames_of}
 
 abbrev pub ReturnsTo : Option Value → List model.Frame → List model.Frame → Type 0

@@ -8,10 +8,10 @@ use Rattle.vm_model.specs.declared.ends.FaultKind.TheVariants as fault
 use Rattle.vm_model.specs.Program.{PlainProgram}
 use Rattle.machine_model.specs.Frames as model
 use Rattle.machine_model.specs.LocalStep.{fault_at, pending_operation, settled_within}
-use Rattle.local_machine.specs.declared.acted.Acted.{Acted}
-use Rattle.local_machine.specs.declared.acted.Acted.TheVariants as acted
+use Rattle.frame_actions.specs.declared.acted.Acted.{Acted}
+use Rattle.frame_actions.specs.declared.acted.Acted.TheVariants as acted
 use Rattle.local_machine.specs.declared.completion.Ready.{Ready}
-use Rattle.local_machine.specs.declared.frame.Frame.{Frame}
+use Rattle.frame_actions.specs.declared.frame.Frame.{Frame}
 use Rattle.local_machine.specs.declared.phase.Phase.{Phase}
 use Rattle.local_machine.specs.declared.phase.Phase.TheVariants as phase
 use Rattle.local_machine.specs.Completions.{Completion, Nothing, completion}

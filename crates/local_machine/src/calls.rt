@@ -3,12 +3,11 @@ ghost use Rattle.std.specs.Prelude.{◌≡◌, ◌+◌, ◌<◌, ◌≤◌, ◌^
 ghost use Rattle.vm_model.specs.Program.{method_at};
 ghost use Rattle.machine_model.specs.Operands.{jump};
 ghost use Rattle.machine_model.specs.LocalStep.{arity_at as model_arity_at, locals_at as model_locals_at, first_frame as model_first_frame, call_frames};
-ghost use Rattle.local_machine.specs.Acts.{plain};
+ghost use Rattle.frame_actions.specs.Acts.{plain};
 ghost use Rattle.local_machine.specs.Fields.{AreAtCalls, CallerHasRoom, callers, frames_of};
 ghost use Rattle.local_machine.specs.Returns.{GaveBack};
 
-use crate::frame::Frame;
-use crate::stack::Stack;
+use frame_actions::{Frame, Stack};
 use std::alloc::Global;
 use std::mem;
 use vm_model::{Lock, MOST_LOCALS, NoMemory, Program, Value};

@@ -1,5 +1,5 @@
 // What is left to do once the reply to an operation is there.
-use crate::frame::Frame;
+use frame_actions::Frame;
 use vm_model::{Op, Value};
 
 /// What is left to do once the reply to an operation is there.

@@ -3,7 +3,7 @@ ghost use Rattle.std.specs.Prelude.{◌≡◌, ◌<◌, IfOk, vec_len, vec_capac
 ghost use Rattle.local_machine.specs.Fields.{CallerHasRoom, callers, completion_of};
 
 use crate::completion::Completion;
-use crate::frame::Frame;
+use frame_actions::Frame;
 use std::alloc::Global;
 use vm_model::NoMemory;
 

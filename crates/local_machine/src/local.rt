@@ -8,14 +8,13 @@ ghost use Rattle.machine_model.specs.LocalStep.{begun_in, class_of, first_of_mai
 ghost use Rattle.local_machine.specs.Further.{IsAtRest, IsFurther};
 ghost use Rattle.local_machine.specs.LocalView.{IsReady, absorbed_by, advanced, fresh};
 
-use crate::calling::{lock_if, run_method};
 use crate::calls::first_frame;
 use crate::completion::Ready;
 use crate::copy::{copy_completion, copy_frames};
-use crate::frame::Frame;
 use crate::phase::Phase;
 use crate::reach::reach;
 use crate::reply::{answer, outcome_after};
+use frame_actions::{Frame, lock_if, run_method};
 use std::alloc::Global;
 use std::marker::Model;
 use vm_model::{Lock, NoMemory, ObjRef, Op, Plain, Program, Reply, Value};

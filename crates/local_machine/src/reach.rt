@@ -4,19 +4,18 @@ ghost use Rattle.vm_model.specs.declared.limits.TheConstants.{MOST_LOCAL_STEPS, 
 ghost use Rattle.vm_model.specs.Program.{IsSmall};
 ghost use Rattle.machine_model.specs.Effect.{action};
 ghost use Rattle.machine_model.specs.LocalStep.{entering as model_entering, fault_at as model_fault_at};
-ghost use Rattle.local_machine.specs.Acts.{acted_of, plain};
+ghost use Rattle.frame_actions.specs.Acts.{acted_of, plain};
 ghost use Rattle.local_machine.specs.Completions.{completion_with};
 ghost use Rattle.local_machine.specs.Fields.{AreAtCalls, HasRoomFor, Stands, callers, completion_of};
 ghost use Rattle.local_machine.specs.LocalView.{is_running};
 ghost use Rattle.local_machine.specs.States.{HasRoomIn, IsReached, state_of, wanted, wanted_call, wanted_return};
 ghost use Rattle.local_machine.specs.Steps.{IsOnTheWay};
 
-use crate::acted::Acted;
 use crate::calls::{arity_at, first_frame, reserve_caller};
 use crate::completion::{Completion, Ready};
-use crate::frame::Frame;
 use crate::phase::Phase;
 use crate::step::{look, settle};
+use frame_actions::{Acted, Frame};
 use std::alloc::Global;
 use vm_model::{FaultKind, Lock, MOST_FRAMES, NoMemory, Op, Program};
 

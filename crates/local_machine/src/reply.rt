@@ -1,7 +1,7 @@
 // What a reply does to a thread.
 ghost use Rattle.std.specs.Prelude.{◌≡◌, vec_len, vec_capacity};
 ghost use Rattle.machine_model.specs.LocalStep.{outcome as model_outcome};
-ghost use Rattle.local_machine.specs.Acts.{plain};
+ghost use Rattle.frame_actions.specs.Acts.{plain};
 ghost use Rattle.local_machine.specs.Completions.{completed_by};
 ghost use Rattle.local_machine.specs.Fields.{AreAtCalls, HasRoomFor, callers, completion_of};
 ghost use Rattle.local_machine.specs.Outcomes.{answered_by, outcome_of};
@@ -9,8 +9,8 @@ ghost use Rattle.local_machine.specs.States.{state_of};
 
 use crate::calls::{enter, give_back};
 use crate::completion::Completion;
-use crate::frame::Frame;
 use crate::phase::Phase;
+use frame_actions::Frame;
 use vm_model::{FaultKind, Lock, Op, Reply, Value};
 
 /// What a reply does to the thread.

@@ -5,14 +5,12 @@ ghost use Rattle.vm_model.specs.Program.{IsSmall};
 ghost use Rattle.machine_model.specs.Frames.{Running, Plain};
 ghost use Rattle.machine_model.specs.Effect.{action};
 ghost use Rattle.machine_model.specs.LocalStep.{call_frames};
-ghost use Rattle.local_machine.specs.Acts.{plain, acted_of, after};
-ghost use Rattle.local_machine.specs.Fields.{AreAtCalls, HasRoom, Stands, StandsUnless, callers, frames_of};
+ghost use Rattle.frame_actions.specs.Acts.{plain, HasRoom, acted_of, after};
+ghost use Rattle.local_machine.specs.Fields.{AreAtCalls, Stands, StandsUnless, callers, frames_of};
 ghost use Rattle.local_machine.specs.Steps.{IsFollowed, IsOnTheWay, IsSettled, IsTried, IsWalked, LeadsOn, followed};
 
-use crate::acted::Acted;
-use crate::acting::act;
 use crate::calls::{arity_at, enter, first_frame, give_back, reserve_caller};
-use crate::frame::Frame;
+use frame_actions::{Acted, Frame, act};
 use std::alloc::Global;
 use vm_model::{Lock, MOST_FRAMES, MOST_LOCAL_STEPS, NoMemory, Program};
 

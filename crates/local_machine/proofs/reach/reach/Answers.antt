@@ -3,14 +3,14 @@ use Rattle.std.specs.Prelude.{ℕ, Option, Result, Ok, Err, OnErr}
 use Rattle.vm_model.specs.declared.memory.NoMemory.{NoMemory}
 use Rattle.vm_model.specs.declared.value.Lock.{Lock}
 use Rattle.vm_model.specs.Program.{PlainProgram}
-use Rattle.local_machine.specs.declared.frame.Frame.{Frame}
+use Rattle.frame_actions.specs.declared.frame.Frame.{Frame}
 use Rattle.local_machine.specs.declared.completion.Ready.{Ready}
 use Rattle.machine_model.specs.Frames as model
 use Rattle.local_machine.specs.declared.phase.Phase.{Phase}
 use Rattle.local_machine.specs.declared.phase.Phase.TheVariants as phase
 use Rattle.local_machine.specs.declared.completion.Completion.TheVariants as completion
 use Rattle.vm_model.specs.declared.op.Op.TheVariants as op
-use Rattle.local_machine.specs.Acts.{plain}
+use Rattle.frame_actions.specs.Acts.{plain}
 use Rattle.local_machine.specs.Fields.{callers, frames_of}
 use Rattle.local_machine.specs.States.{IsReached, state_of}
 use Rattle.local_machine.specs.Steps.{IsOnTheWay}

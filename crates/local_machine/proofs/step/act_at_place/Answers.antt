@@ -1,7 +1,7 @@
 use Rattle.std.proofs.Common.{◌<◌, ◌^◌, sym, subst}
 use Rattle.machine_model.specs.Effect.{effect}
-use Rattle.local_machine.specs.declared.acted.Acted.{Acted}
-use Rattle.local_machine.specs.Acts.{plain}
+use Rattle.frame_actions.specs.declared.acted.Acted.{Acted}
+use Rattle.frame_actions.specs.Acts.{plain}
 use Rattle.local_machine.specs.Fields.{Stands}
 use Rattle.local_machine.proofs.Small.{small_place}
 use Rattle.local_machine.proofs.Stands.{stands}

@@ -1,9 +1,9 @@
-use Rattle.std.proofs.Common.{◌≡◌, arith, refl}
+use Rattle.std.proofs.Common.{arith, refl}
 use Rattle.std.specs.Prelude.{Result, Ok, Err, IfOk}
 use Rattle.vm_model.specs.declared.memory.NoMemory.{NoMemory}
 use Rattle.machine_model.specs.Frames.{Running, Plain}
-use Rattle.local_machine.specs.declared.acted.Acted.{Acted}
-use Rattle.local_machine.specs.Acts.{plain}
+use Rattle.frame_actions.specs.declared.acted.Acted.{Acted}
+use Rattle.frame_actions.specs.Acts.{plain}
 use Rattle.local_machine.specs.Fields.{callers, frames_of}
 use Rattle.local_machine.proofs.Settled.{on_the_way_here, on_the_way-made, settled-looked, settled-unmade, walked-waits}
 use Rattle.local_machine.proofs.step.settle.Goals as goal

@@ -1,7 +1,7 @@
-use Rattle.std.proofs.Common.{◌≡◌, ◌≢◌, sym, ◌∙◌, arith, true, false}
+use Rattle.std.proofs.Common.{◌≡◌, ◌∙◌, arith}
 use Rattle.machine_model.specs.Effect.{action}
-use Rattle.local_machine.specs.declared.acted.Acted.TheVariants as acted
-use Rattle.local_machine.specs.Acts.{plain}
+use Rattle.frame_actions.specs.declared.acted.Acted.TheVariants as acted
+use Rattle.frame_actions.specs.Acts.{plain}
 use Rattle.local_machine.proofs.Moved.{frame-stays}
 use Rattle.local_machine.proofs.Settled.{leads-made, leads-stays, tried-ended, tried-stopped, trying-made, walked-stopped}
 use Rattle.local_machine.proofs.step.walk.Goals as goal

@@ -1,5 +1,5 @@
 use Rattle.std.proofs.Common.{◌-◌, ◌≤◌}
-use Rattle.local_machine.specs.Acts.{plain}
+use Rattle.frame_actions.specs.Acts.{plain}
 use Rattle.local_machine.specs.Steps.{LeadsOn}
 use Rattle.local_machine.proofs.Settled.{IsTrying}
 use Rattle.local_machine.proofs.step.walk.Given as goal

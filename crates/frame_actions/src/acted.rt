@@ -1,6 +1,6 @@
 // What an instruction does.
 ghost use Rattle.std.specs.Prelude.{◌≡◌};
-ghost use Rattle.local_machine.specs.Acts.{goes_if};
+ghost use Rattle.frame_actions.specs.Acts.{goes_if};
 
 use vm_model::{FaultKind, Lock, Op, Value};
 

@@ -4,8 +4,8 @@ ghost use Rattle.vm_model.specs.declared.limits.TheConstants.{MOST_TEXT_BYTES};
 ghost use Rattle.vm_model.specs.Program.{method_at};
 ghost use Rattle.machine_model.specs.Effect.{effect, calls_on, calls_static, run_method as model_run_method, lock_if as model_lock_if};
 ghost use Rattle.machine_model.specs.Operands.{as_stream, Asks};
-ghost use Rattle.local_machine.specs.Acts.{plain, acted_of, after};
-ghost use Rattle.local_machine.specs.Families.{is_call, is_constructor, is_of_thread, is_print, is_return};
+ghost use Rattle.frame_actions.specs.Acts.{plain, acted_of, after};
+ghost use Rattle.frame_actions.specs.Families.{is_call, is_constructor, is_of_thread, is_print, is_return};
 
 use crate::acted::Acted;
 use crate::frame::Frame;

@@ -1,8 +1,8 @@
 // Numbers made of numbers.
 ghost use Rattle.std.specs.Prelude.{◌≡◌, ◌+◌, ◌<◌, ◌≤◌, ◌^◌, length, true};
 ghost use Rattle.machine_model.specs.Effect.{effect, shift_right_unsigned};
-ghost use Rattle.local_machine.specs.Acts.{plain, acted_of, after};
-ghost use Rattle.local_machine.specs.Families.{is_of_two_numbers, is_of_one};
+ghost use Rattle.frame_actions.specs.Acts.{plain, acted_of, after};
+ghost use Rattle.frame_actions.specs.Families.{is_of_two_numbers, is_of_one};
 
 use crate::acted::Acted;
 use crate::frame::Frame;

@@ -1,14 +1,18 @@
 -- What the code says of an action, and what an action leaves of the frame.
-use Rattle.std.specs.Prelude.{Bool, true, false}
+use Rattle.std.specs.Prelude.{◌+◌, ◌≤◌, Bool, true, false, length}
 use Rattle.machine_model.specs.Frames as model
 use Rattle.machine_model.specs.Operands.{Action, Goes, Calls, Gives, Asks, Fails, Undefined}
-use Rattle.local_machine.specs.declared.frame.Frame.{Frame}
-use Rattle.local_machine.specs.declared.acted.Acted.{Acted}
-use Rattle.local_machine.specs.declared.acted.Acted.TheVariants as acted
+use Rattle.frame_actions.specs.declared.frame.Frame.{Frame}
+use Rattle.frame_actions.specs.declared.acted.Acted.{Acted}
+use Rattle.frame_actions.specs.declared.acted.Acted.TheVariants as acted
 
 -- the frame as the definitions see it
 abbrev pub plain : Frame → model.Frame
 plain f = record { method = f.method; place = f.place; locals = f.locals.items; stack = f.stack.values; lock = f.lock }
+
+-- there is room for an instruction
+abbrev pub HasRoom : Frame → Type 0
+HasRoom f = length f.stack.values + 2 ≤ f.stack.room
 
 -- the action without the frame
 abbrev pub acted_of : Action → Acted

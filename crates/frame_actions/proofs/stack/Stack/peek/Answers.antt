@@ -1,6 +1,6 @@
 use Rattle.std.proofs.Common.{arith}
-use Rattle.local_machine.proofs.Reversed.{top_of-drop-reverse, slice_get-reverse, slice_get-reverse_past}
-use Rattle.local_machine.proofs.stack.Stack.peek.Goals as goal
+use Rattle.frame_actions.proofs.Reversed.{top_of-drop-reverse, slice_get-reverse, slice_get-reverse_past}
+use Rattle.frame_actions.proofs.stack.Stack.peek.Goals as goal
 
 pub returns-then-depth-len-clause-top : goal.returns-then-depth-len-clause-top
 returns-then-depth-len-clause-top c = grind (arith, top_of-drop-reverse)

@@ -1,8 +1,7 @@
 // A frame, and the ways in which an instruction of the thread alone changes it.
 ghost use Rattle.std.specs.Prelude.{◌≡◌, ◌+◌, ◌<◌, ◌≤◌, ◌^◌, ◌∷◌, length, drop, slice_get, IfOk, OnOk};
 ghost use Rattle.machine_model.specs.Operands.{next, branch, store, on_local, int_in, Goes};
-ghost use Rattle.local_machine.specs.Acts.{plain, acted_of, after, goes_if};
-ghost use Rattle.local_machine.specs.Fields.{HasRoom};
+ghost use Rattle.frame_actions.specs.Acts.{plain, HasRoom, acted_of, after, goes_if};
 
 use crate::stack::Stack;
 use std::alloc::Global;
@@ -48,7 +47,7 @@ impl Frame {
     }
 
     /// Takes so many operands, and goes on to the next place.
-    pub fn take(&mut self, taken: usize)
+    pub(crate) fn take(&mut self, taken: usize)
         requires { self.old.place < 2 ^ 31 }
         ensures room { self.old.stack.room ≤ self.new.stack.room }
         ensures frame { plain self.new ≡ next (plain self.old) (drop taken self.old.stack.values) }
@@ -58,7 +57,7 @@ impl Frame {
     }
 
     /// Takes so many operands, puts a value on top, and goes on to the next place.
-    pub fn put(&mut self, taken: usize, value: Value)
+    pub(crate) fn put(&mut self, taken: usize, value: Value)
         requires place { self.old.place < 2 ^ 31 }
         requires room { length self.old.stack.values < self.old.stack.room }
         ensures room { self.old.stack.room ≤ self.new.stack.room }
@@ -70,7 +69,7 @@ impl Frame {
     }
 
     /// Takes so many operands, puts a number on top, and goes on to the next place.
-    pub fn put_int(&mut self, taken: usize, number: i32)
+    pub(crate) fn put_int(&mut self, taken: usize, number: i32)
         requires place { self.old.place < 2 ^ 31 }
         requires room { length self.old.stack.values < self.old.stack.room }
         ensures room { self.old.stack.room ≤ self.new.stack.room }
@@ -80,7 +79,7 @@ impl Frame {
     }
 
     /// Takes so many operands, and goes on to that place where the test holds, else to the next one.
-    pub fn branch(&mut self, taken: usize, holds: bool, to: u32)
+    pub(crate) fn branch(&mut self, taken: usize, holds: bool, to: u32)
         requires { self.old.place < 2 ^ 31 }
         ensures room { self.old.stack.room ≤ self.new.stack.room }
         ensures frame { plain self.new ≡ branch holds (plain self.old) to (drop taken self.old.stack.values) }
@@ -94,7 +93,7 @@ impl Frame {
     }
 
     /// Takes so many operands, writes a local, and goes on to the next place; false, and no change, where there is no such local.
-    pub fn store(&mut self, taken: usize, local: u32, value: Value) -> bool
+    pub(crate) fn store(&mut self, taken: usize, local: u32, value: Value) -> bool
         requires { self.old.place < 2 ^ 31 }
         ensures acted { goes_if result ≡ acted_of (on_local (slice_get self.old.locals.items local) (λ _. Goes (store (plain self.old) local value (drop taken self.old.stack.values)))) }
         ensures room { self.old.stack.room ≤ self.new.stack.room }
@@ -113,7 +112,7 @@ impl Frame {
 
     /// Takes so many operands, writes a number to a local, and goes on to the next place; false, and no change, where there is no
     /// such local.
-    pub fn store_int(&mut self, taken: usize, local: u32, number: i32) -> bool
+    pub(crate) fn store_int(&mut self, taken: usize, local: u32, number: i32) -> bool
         requires { self.old.place < 2 ^ 31 }
         ensures acted { goes_if result ≡ acted_of (on_local (slice_get self.old.locals.items local) (λ _. Goes (store (plain self.old) local (Value.Int number) (drop taken self.old.stack.values)))) }
         ensures room { self.old.stack.room ≤ self.new.stack.room }
@@ -123,7 +122,7 @@ impl Frame {
     }
 
     /// The number in a local, if a number is there.
-    pub fn int_local(&self, local: u32) -> Option<i32>
+    pub(crate) fn int_local(&self, local: u32) -> Option<i32>
         ensures { result ≡ int_in (slice_get self.now.locals.items local) }
     {
         match self.locals.get(local as usize) {
@@ -133,7 +132,7 @@ impl Frame {
     }
 
     /// The value in a local, if there is such a local.
-    pub fn local(&self, local: u32) -> Option<Value>
+    pub(crate) fn local(&self, local: u32) -> Option<Value>
         ensures { result ≡ slice_get self.now.locals.items local }
     {
         self.locals.get(local as usize).copied()

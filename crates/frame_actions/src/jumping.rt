@@ -1,8 +1,8 @@
 // Jumps.
 ghost use Rattle.std.specs.Prelude.{◌≡◌, ◌+◌, ◌<◌, ◌≤◌, ◌^◌, length, true};
 ghost use Rattle.machine_model.specs.Effect.{effect, same_reference as same_references};
-ghost use Rattle.local_machine.specs.Acts.{plain, acted_of, after};
-ghost use Rattle.local_machine.specs.Families.{is_jump_of_one, is_jump_of_two, is_jump_of_references};
+ghost use Rattle.frame_actions.specs.Acts.{plain, acted_of, after};
+ghost use Rattle.frame_actions.specs.Families.{is_jump_of_one, is_jump_of_two, is_jump_of_references};
 ghost use Rattle.machine_model.specs.Kinds.{is_null as is_null_value};
 
 use crate::acted::Acted;

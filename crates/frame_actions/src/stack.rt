@@ -14,7 +14,7 @@ pub struct Stack {
 
 impl Model for Stack {
     ghost use Rattle.std.specs.Prelude.{reverse, vec_capacity};
-    ghost use Rattle.local_machine.specs.StackView.{StackView};
+    ghost use Rattle.frame_actions.specs.StackView.{StackView};
 
     ghost Value = { StackView };
 
@@ -55,14 +55,14 @@ impl Stack {
     }
 
     /// How many operands there are.
-    pub fn len(&self) -> usize
+    pub(crate) fn len(&self) -> usize
         ensures { result ≡ length self.now.values }
     {
         self.values.len()
     }
 
     /// The value below so many others, if there is one.
-    pub fn peek(&self, depth: usize) -> Option<Value>
+    pub(crate) fn peek(&self, depth: usize) -> Option<Value>
         ensures top { MatchOption result (top_of (drop depth self.now.values) ≡ None) (λ v. top_of (drop depth self.now.values) ≡ Some (v, drop (depth + 1) self.now.values)) }
         ensures get { result ≡ slice_get self.now.values depth }
     {
@@ -75,7 +75,7 @@ impl Stack {
     }
 
     /// The number below so many other values, if there is a number.
-    pub fn peek_int(&self, depth: usize) -> Option<i32>
+    pub(crate) fn peek_int(&self, depth: usize) -> Option<i32>
         ensures { MatchOption result (top_int_of (drop depth self.now.values) ≡ None) (λ n. top_int_of (drop depth self.now.values) ≡ Some (n, drop (depth + 1) self.now.values)) }
     {
         match self.peek(depth) {
@@ -85,7 +85,7 @@ impl Stack {
     }
 
     /// The second value and the top one, as far as they are there.
-    pub fn pair(&self) -> (Option<Value>, Option<Value>)
+    pub(crate) fn pair(&self) -> (Option<Value>, Option<Value>)
         ensures second { MatchOption result.0 (top_of (drop 1 self.now.values) ≡ None) (λ v. top_of (drop 1 self.now.values) ≡ Some (v, drop 2 self.now.values)) }
         ensures top { MatchOption result.1 (top_of self.now.values ≡ None) (λ v. top_of self.now.values ≡ Some (v, drop 1 self.now.values)) }
     {
@@ -93,7 +93,7 @@ impl Stack {
     }
 
     /// The numbers in the second place and on top, as far as numbers are there.
-    pub fn ints(&self) -> (Option<i32>, Option<i32>)
+    pub(crate) fn ints(&self) -> (Option<i32>, Option<i32>)
         ensures second { MatchOption result.0 (top_int_of (drop 1 self.now.values) ≡ None) (λ n. top_int_of (drop 1 self.now.values) ≡ Some (n, drop 2 self.now.values)) }
         ensures top { MatchOption result.1 (top_int_of self.now.values ≡ None) (λ n. top_int_of self.now.values ≡ Some (n, drop 1 self.now.values)) }
     {
@@ -118,7 +118,7 @@ impl Stack {
     }
 
     /// The same operands again.
-    pub fn copy(&self, alloc: Global) -> Result<Stack, NoMemory>
+    pub(crate) fn copy(&self, alloc: Global) -> Result<Stack, NoMemory>
         ensures { IfOk result (λ stack. stack.values ≡ self.now.values) }
     {
         match Vec::from_slice(alloc, self.values.as_slice()) {

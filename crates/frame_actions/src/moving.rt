@@ -1,8 +1,8 @@
 // Constants, locals, and the order of operands.
 ghost use Rattle.std.specs.Prelude.{◌≡◌, ◌+◌, ◌<◌, ◌≤◌, ◌^◌, length, true};
 ghost use Rattle.machine_model.specs.Effect.{effect};
-ghost use Rattle.local_machine.specs.Acts.{plain, acted_of, after};
-ghost use Rattle.local_machine.specs.Families.{is_constant, is_of_local, is_order};
+ghost use Rattle.frame_actions.specs.Acts.{plain, acted_of, after};
+ghost use Rattle.frame_actions.specs.Families.{is_constant, is_of_local, is_order};
 
 use crate::acted::{Acted, goes_if};
 use crate::frame::Frame;

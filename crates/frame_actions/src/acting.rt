@@ -2,7 +2,7 @@
 ghost use Rattle.std.specs.Prelude.{◌≡◌, ◌+◌, ◌<◌, ◌≤◌, ◌^◌, length};
 ghost use Rattle.vm_model.specs.declared.limits.TheConstants.{MOST_TEXT_BYTES};
 ghost use Rattle.machine_model.specs.Effect.{effect};
-ghost use Rattle.local_machine.specs.Acts.{plain, acted_of, after};
+ghost use Rattle.frame_actions.specs.Acts.{plain, acted_of, after};
 
 use crate::accessing::{of_array, of_field, of_monitor, of_static};
 use crate::acted::Acted;

@@ -2,8 +2,8 @@
 ghost use Rattle.std.specs.Prelude.{◌≡◌, ◌<◌, ◌≤◌, ◌^◌, true};
 ghost use Rattle.machine_model.specs.Effect.{effect};
 ghost use Rattle.machine_model.specs.Operands.{as_index, as_length, Asks};
-ghost use Rattle.local_machine.specs.Acts.{plain, acted_of, after};
-ghost use Rattle.local_machine.specs.Families.{is_of_array, is_of_field, is_of_monitor, is_of_static};
+ghost use Rattle.frame_actions.specs.Acts.{plain, acted_of, after};
+ghost use Rattle.frame_actions.specs.Families.{is_of_array, is_of_field, is_of_monitor, is_of_static};
 
 use crate::acted::Acted;
 use crate::frame::Frame;

@@ -1,0 +1,3 @@
+pub mod StackView
+pub mod Families
+pub mod Acts
