@@ -1,18 +1,17 @@
 -- What a command says, put to the sink.
 use Rattle.std.proofs.Common.{◌≡◌, ℕ, Global, List, Vec, ◌++◌, ap, sym, subst, ◌∙◌, IsTrue, inr, ⊎_elim}
 use Rattle.command_line.specs.Requests.{Request, Check, Record, Replay, Show, Derive, Run, Seek, Isolate, Reduce, Races, Tiles, Drill, Unknown}
-use Rattle.dejavu_tool.specs.declared.halt.Halt.{Halt}
-use Rattle.dejavu_tool.specs.declared.halt.Halt.TheVariants as halt
-use Rattle.dejavu_tool.specs.declared.status.Status.{Status}
-use Rattle.dejavu_tool.specs.declared.status.Status.TheVariants as status
+use Rattle.tool_stages.specs.declared.halt.Halt.{Halt}
+use Rattle.tool_stages.specs.declared.halt.Halt.TheVariants as halt
+use Rattle.tool_stages.specs.declared.status.Status.{Status}
+use Rattle.tool_stages.specs.declared.status.Status.TheVariants as status
 use Rattle.vm_model.specs.Program.{PlainProgram}
 use Rattle.schedule_log.specs.Logs.{PlainLog}
-use Rattle.dejavu_tool.specs.Answers.{Answers, AtLog, AtSchedule, Checks, Does, DrillStops, StopsAfterLog, StopsAfterProgram, StopsAfterSchedule, StopsAfterSchedules, Stops, Tells, Records, Replays, UsageStops}
-use Rattle.dejavu_tool.specs.Calls.{FolderCall, SinkCall, Puts}
-use Rattle.dejavu_tool.specs.Files.{FileStops, LogStops, ProgramStops, ScheduleStops}
+use Rattle.tool_stages.specs.Calls.{FolderCall, SinkCall, Puts}
+use Rattle.tool_stages.specs.Files.{FileStops, LogStops, ProgramStops, ScheduleStops}
+use Rattle.dejavu_tool.specs.Answers.{Answers, AtLog, AtSchedule, Checks, Does, DrillStops, StopsAfterLog, StopsAfterProgram, StopsAfterSchedule, StopsAfterSchedules, Stops, Tells, Records, Replays, UsageStops, Halts, PutsUnlessFault}
 use Rattle.dejavu_tool.specs.Headline.{CheckHolds, DeriveHolds, DrillHolds, IsolationHolds, RacesHold, ReduceHolds, SeekHolds, TilesHold, RecordingHolds, ReplayHolds, RunHolds, ShowHolds, IsFinishedCheck, IsFinishedRecording, IsFinishedReplay}
 use Rattle.dejavu_tool.specs.Runs.{DeriveStops, IsolateStops, ReduceStops, RunStops, SeekStops, StateStops}
-use Rattle.dejavu_tool.specs.Stages.{Halts, PutsUnlessFault}
 
 -- ---- no stage stops with a status that tells of no stage
 

@@ -19,17 +19,18 @@ use Rattle.program_reducer.specs.Reductions as reduction
 use Rattle.program_isolator.specs.Isolations.{NeedsMore, tests_between}
 use Rattle.command_line.specs.Requests.{Request, Check, Record, Replay, Show, Derive, Run, Seek, Isolate, Reduce, Races, Tiles, Drill, Unknown}
 use Rattle.drill_program.specs.Texts.{drill_text}
-use Rattle.dejavu_tool.specs.declared.status.Status.{Status}
-use Rattle.dejavu_tool.specs.declared.status.Status.TheVariants as status
-use Rattle.dejavu_tool.specs.declared.programs.ProgramFault.{ProgramFault}
-use Rattle.dejavu_tool.specs.declared.programs.ProgramFault.TheVariants as fault
-use Rattle.dejavu_tool.specs.Accepting.{linked, IsAccepted}
+use Rattle.tool_stages.specs.declared.status.Status.{Status}
+use Rattle.tool_stages.specs.declared.status.Status.TheVariants as status
+use Rattle.tool_stages.specs.declared.programs.ProgramFault.{ProgramFault}
+use Rattle.tool_stages.specs.declared.programs.ProgramFault.TheVariants as fault
+use Rattle.tool_stages.specs.Accepting.{linked, IsAccepted}
+use Rattle.tool_stages.specs.Calls.{FolderCall, SinkCall}
+use Rattle.tool_stages.specs.Files.{FileStops, LoadsLog, LoadsProgram, LoadsSchedule, LogStops, ProgramStops, ScheduleStops, TellsFault}
+use Rattle.tool_stages.proofs.Telling.{same_ok}
 use Rattle.dejavu_tool.specs.Answers.{Answers, AtLog, AtSchedule, DrillStops, StopsAfterLog, StopsAfterProgram, StopsAfterSchedule, StopsAfterSchedules, StoreIsLost, Stops}
-use Rattle.dejavu_tool.specs.Calls.{FolderCall, SinkCall}
 use Rattle.dejavu_tool.specs.Completeness.{CanDerive, CanDo, CanIsolate, CanReduce, CanSeek, HasLog, HasProgram, HasSchedule, IsComplete, IsUnhindered, RunsTo, RunsUpTo}
-use Rattle.dejavu_tool.specs.Files.{FileStops, LoadsLog, LoadsProgram, LoadsSchedule, LogStops, ProgramStops, ScheduleStops, TellsFault}
 use Rattle.dejavu_tool.specs.Runs.{DeriveStops, IsolateStops, ReduceStops, RunStops, SeekStops, StateStops, TellsDivergence, TellsEarlyDivergence, TellsNoFault, TellsNotFailing, TellsNotPassing, TellsTooMany}
-use Rattle.dejavu_tool.proofs.Repeating.{same_some, same_ok, spelled_is_read}
+use Rattle.dejavu_tool.proofs.Repeating.{same_some, spelled_is_read}
 
 -- ---- runs
 

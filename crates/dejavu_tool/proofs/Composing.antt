@@ -3,13 +3,13 @@ use Rattle.std.proofs.Common.{◌≡◌, ℕ, List, sym, subst, ◌∙◌, IsTru
 use Rattle.vm_model.specs.Program.{PlainProgram}
 use Rattle.schedule_log.specs.Logs.{PlainLog}
 use Rattle.command_line.specs.Requests.{Derive, Record, Reduce, Seek}
-use Rattle.dejavu_tool.specs.declared.halt.Halt.{Halt}
-use Rattle.dejavu_tool.specs.declared.halt.Halt.TheVariants as halt
-use Rattle.dejavu_tool.specs.declared.status.Status.{Status}
-use Rattle.dejavu_tool.specs.Answers.{LosesFile}
-use Rattle.dejavu_tool.specs.Calls.{FolderCall, IsUntouched}
-use Rattle.dejavu_tool.specs.Files.{LoadsLog, LoadsProgram, LoadsSchedule}
-use Rattle.dejavu_tool.specs.Stages.{Halts, HaltsBy, StoreHalts}
+use Rattle.tool_stages.specs.declared.halt.Halt.{Halt}
+use Rattle.tool_stages.specs.declared.halt.Halt.TheVariants as halt
+use Rattle.tool_stages.specs.declared.status.Status.{Status}
+use Rattle.tool_stages.specs.Calls.{FolderCall, IsUntouched}
+use Rattle.tool_stages.specs.Files.{LoadsLog, LoadsProgram, LoadsSchedule}
+use Rattle.tool_stages.specs.Stages.{HaltsBy, LosesFile, StoreHalts}
+use Rattle.dejavu_tool.specs.Answers.{Halts}
 
 -- c is b, which only reads, and then d
 pub record Composed (b d c : FolderCall) : Type 0 where

@@ -1,11 +1,12 @@
 -- How many loads failed, by the status that is answered.
 use Rattle.std.proofs.Common.{◌≡◌, ℕ, Global, List, Vec, Result, Err, sym, subst, inl, inr, ⊎_elim}
-use Rattle.dejavu_tool.specs.declared.halt.Halt.{Halt}
-use Rattle.dejavu_tool.specs.declared.halt.Halt.TheVariants as halt
-use Rattle.dejavu_tool.specs.declared.status.Status.{Status}
-use Rattle.dejavu_tool.specs.declared.status.Status.TheVariants as status
-use Rattle.dejavu_tool.specs.Calls.{SinkCall}
-use Rattle.dejavu_tool.specs.Stages.{CountsAnswer, CountsLoads, CountsTold, PutsUnlessFault}
+use Rattle.tool_stages.specs.declared.halt.Halt.{Halt}
+use Rattle.tool_stages.specs.declared.halt.Halt.TheVariants as halt
+use Rattle.tool_stages.specs.declared.status.Status.{Status}
+use Rattle.tool_stages.specs.declared.status.Status.TheVariants as status
+use Rattle.tool_stages.specs.Calls.{SinkCall}
+use Rattle.tool_stages.specs.Stages.{CountsLoads, CountsTold}
+use Rattle.dejavu_tool.specs.Answers.{CountsAnswer, PutsUnlessFault}
 
 answer_of_told : (old new : ℕ) (st : Status) → CountsTold old new st → CountsAnswer old new st
 answer_of_told old new status.WriteFault h = inl h

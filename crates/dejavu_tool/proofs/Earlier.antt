@@ -5,15 +5,15 @@ use Rattle.vm_model.specs.Program.{PlainProgram}
 use Rattle.schedule_log.specs.Logs.{PlainLog}
 use Rattle.tool_io.specs.Outside.{raised_count}
 use Rattle.command_line.specs.Requests.{Isolate}
-use Rattle.dejavu_tool.specs.declared.halt.Halt.{Halt}
-use Rattle.dejavu_tool.specs.declared.halt.Halt.TheVariants as halt
-use Rattle.dejavu_tool.specs.declared.status.Status.{Status}
-use Rattle.dejavu_tool.specs.declared.status.Status.TheVariants as status
-use Rattle.dejavu_tool.specs.Answers.{Isolates}
-use Rattle.dejavu_tool.specs.Calls.{FolderCall, IsUntouched}
-use Rattle.dejavu_tool.specs.Files.{FileStops, LoadsLog, LoadsProgram, LoadsSchedule, ScheduleStops}
+use Rattle.tool_stages.specs.declared.halt.Halt.{Halt}
+use Rattle.tool_stages.specs.declared.halt.Halt.TheVariants as halt
+use Rattle.tool_stages.specs.declared.status.Status.{Status}
+use Rattle.tool_stages.specs.declared.status.Status.TheVariants as status
+use Rattle.tool_stages.specs.Calls.{FolderCall, IsUntouched}
+use Rattle.tool_stages.specs.Files.{FileStops, LoadsLog, LoadsProgram, LoadsSchedule, ScheduleStops}
+use Rattle.tool_stages.specs.Stages.{HaltsBy}
+use Rattle.dejavu_tool.specs.Answers.{Halts, Isolates}
 use Rattle.dejavu_tool.specs.Runs.{IsolateStops, TellsIsolated}
-use Rattle.dejavu_tool.specs.Stages.{Halts, HaltsBy}
 
 -- both began with the same files
 pub record Earlier (b c : FolderCall) : Type 0 where

@@ -4,8 +4,5 @@ pub mod Answering
 pub mod Beginning
 pub mod Completing
 pub mod Repeating
-pub mod Linked
-pub mod FirstValues
-pub mod Telling
 pub mod Earlier
 pub mod AfterLog

@@ -10,15 +10,13 @@ use Rattle.schedule_log.specs.Spelling.{Spells}
 use Rattle.schedule_log.proofs.Spelled.{read_again}
 use Rattle.report_writer.specs.Texts.{run_text}
 use Rattle.thread_driver.specs.Recordings.{IsRecording}
+use Rattle.tool_stages.specs.Accepting.{linked}
+use Rattle.tool_stages.proofs.Telling.{same_ok}
 use Rattle.dejavu_tool.specs.Runs.{TellsRecording}
-use Rattle.dejavu_tool.specs.Accepting.{linked}
 use Rattle.dejavu_tool.specs.Headline.{IsRunOfFiles}
 
 pub same_some : {A : Type 0} (o : Option A) (x y : A) → o ≡ Some x → o ≡ Some y → x ≡ y
 same_some o x y a b = cc
-
-pub same_ok : {A E : Type 0} (r : Result A E) (x y : A) → r ≡ Ok x → r ≡ Ok y → x ≡ y
-same_ok r x y a b = cc
 
 pub spelled_is_read : (log : PlainLog) (bytes : List ℕ) → Spells log bytes → read_log bytes ≡ Ok log
 spelled_is_read log bytes s = rw s.1 (read_again log s.0)

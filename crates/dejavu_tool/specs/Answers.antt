@@ -1,20 +1,23 @@
 -- What each status of a command says.
 use Rattle.std.specs.Prelude.{◌≡◌, ℕ, List, ◌++◌, IsTrue, codes, ◌⊎◌}
-use Rattle.tool_io.specs.Outside.{SameButOne}
+use Rattle.tool_io.specs.Outside.{raised_count}
 use Rattle.vm_model.specs.Program.{PlainProgram}
 use Rattle.schedule_log.specs.Logs.{PlainLog}
 use Rattle.command_line.specs.Requests.{Request, Check, Record, Replay, Show, Derive, Run, Seek, Isolate, Reduce, Races, Tiles, Drill, Unknown}
 use Rattle.report_writer.specs.Tiles.{tiles_text}
 use Rattle.drill_program.specs.Texts.{drill_text}
 use Rattle.vm_model.specs.declared.limits.TheConstants.{MOST_EVENTS}
-use Rattle.dejavu_tool.specs.declared.status.Status.{Status}
-use Rattle.dejavu_tool.specs.declared.status.Status.TheVariants as status
+use Rattle.tool_stages.specs.declared.halt.Halt.{Halt}
+use Rattle.tool_stages.specs.declared.halt.Halt.TheVariants as halt
+use Rattle.tool_stages.specs.declared.status.Status.{Status}
+use Rattle.tool_stages.specs.declared.status.Status.TheVariants as status
+use Rattle.tool_stages.specs.Calls.{FolderCall, SinkCall, Stores, IsUntouched, Puts, PutsNothing, PutFails}
+use Rattle.tool_stages.specs.Accepting.{IsAccepted}
+use Rattle.tool_stages.specs.Files.{LoadsProgram, LoadsLog, LoadsSchedule, ProgramStops, LogStops, RefusesText, ScheduleStops}
+use Rattle.tool_stages.specs.Lines.{usage_line}
+use Rattle.tool_stages.specs.Stages.{CountsTold, LosesFile}
 use Rattle.dejavu_tool.specs.Checking.{check_text, count_line}
-use Rattle.dejavu_tool.specs.Calls.{FolderCall, SinkCall, StoreFails, Stores, IsUntouched, Puts, PutsNothing, PutFails}
-use Rattle.dejavu_tool.specs.Accepting.{IsAccepted}
-use Rattle.dejavu_tool.specs.Files.{LoadsProgram, LoadsLog, LoadsSchedule, ProgramStops, LogStops, RefusesText, ScheduleStops}
 use Rattle.dejavu_tool.specs.Runs.{DeriveStops, IsolateStops, ReduceStops, RunStops, SeekStops, StateStops, TellsDerived, TellsIsolated, TellsRaces, TellsRecording, TellsReduced, TellsRun, TellsScheduled, TellsSought, TellsState}
-use Rattle.dejavu_tool.specs.Lines.{usage_line}
 
 -- ---- what is done, and printed
 
@@ -236,11 +239,6 @@ Tells asked c status printed = Stops asked c status printed
 
 -- ---- the whole
 
--- the file wasn't stored, and no other file changed
-pub record LosesFile (c : FolderCall) (name : List ℕ) : Type 0 where
-  pub fault : StoreFails c
-  pub others : IsTrue c.told → SameButOne c.before c.after name
-
 -- what was to be stored wasn't
 abbrev pub StoreIsLost : Request → FolderCall → Type 0
 StoreIsLost (Record program log lanes events) c = StopsAfterProgram c program (λ p. LosesFile c log)
@@ -273,3 +271,29 @@ abbrev pub Answers : Request → FolderCall → SinkCall → Status → Type 0
 Answers asked c s status.WriteFault = (StoreIsLost asked c × PutsNothing s) ⊎ LosesText asked c s
 Answers asked c s status.OutOfMemory = LeavesFiles asked c × PutsNothing s
 Answers asked c s status = Prints asked c s status
+
+-- ---- up to the printing
+
+-- the words are of no command
+abbrev pub UsageTold : Status → List ℕ → Type 0
+UsageTold status.Usage line = line ≡ usage_line
+UsageTold _ line = ⊥
+
+-- what was asked for wasn't done
+abbrev pub Halts : Request → FolderCall → Halt → Type 0
+Halts asked c (halt.Told status line) = Stops asked c status line.items
+Halts asked c halt.Memory = LeavesFiles asked c
+Halts asked c halt.Store = StoreIsLost asked c
+
+-- ---- the printing
+
+-- the text is put, or a put failed
+abbrev pub PutsUnlessFault : SinkCall → Status → List ℕ → Status → Type 0
+PutsUnlessFault s wanted text answer = ((answer ≡ wanted) × Puts s text) ⊎ ((answer ≡ status.WriteFault) × PutFails s text)
+
+-- the count of failed loads by the status of a command: one load failed after a read fault, none after other statuses, but
+-- that after a write fault and want of memory it may be the one whose line couldn't be printed
+abbrev pub CountsAnswer : ℕ → ℕ → Status → Type 0
+CountsAnswer old new status.WriteFault = (new ≡ old) ⊎ (new ≡ raised_count old)
+CountsAnswer old new status.OutOfMemory = (new ≡ old) ⊎ (new ≡ raised_count old)
+CountsAnswer old new answer = CountsTold old new answer

@@ -14,10 +14,10 @@ use Rattle.program_reducer.specs.Reductions.{tests_on}
 use Rattle.program_isolator.specs.Isolations.{EndsSo, tests_between}
 use Rattle.command_line.specs.Requests.{Request, Check, Record, Replay, Show, Derive, Run, Seek, Isolate, Reduce, Races, Tiles, Drill, Unknown}
 use Rattle.drill_program.specs.Texts.{drill_text}
-use Rattle.dejavu_tool.specs.declared.status.Status.{Status}
-use Rattle.dejavu_tool.specs.declared.status.Status.TheVariants as status
-use Rattle.dejavu_tool.specs.Accepting.{IsAccepted}
-use Rattle.dejavu_tool.specs.Calls.{FolderCall, SinkCall, HasPutFault, LoadFails, StoreFails}
+use Rattle.tool_stages.specs.declared.status.Status.{Status}
+use Rattle.tool_stages.specs.declared.status.Status.TheVariants as status
+use Rattle.tool_stages.specs.Accepting.{IsAccepted}
+use Rattle.tool_stages.specs.Calls.{FolderCall, SinkCall, HasPutFault, LoadFails, StoreFails}
 
 -- ---- what the folder holds
 

@@ -10,11 +10,11 @@ use Rattle.schedule_log.specs.Intervals.{Tiles as AreTiles}
 use Rattle.schedule_log.specs.Logs.{PlainLog, events, expansion}
 use Rattle.schedule_log.specs.Spelling.{Spells}
 use Rattle.report_writer.specs.Texts.{run_text}
-use Rattle.dejavu_tool.specs.declared.status.Status.{Status}
-use Rattle.dejavu_tool.specs.declared.status.Status.TheVariants as status
-use Rattle.dejavu_tool.specs.Accepting.{IsAccepted}
+use Rattle.tool_stages.specs.declared.status.Status.{Status}
+use Rattle.tool_stages.specs.declared.status.Status.TheVariants as status
+use Rattle.tool_stages.specs.Accepting.{IsAccepted}
+use Rattle.tool_stages.specs.Calls.{FolderCall, SinkCall}
 use Rattle.dejavu_tool.specs.Checking.{check_text}
-use Rattle.dejavu_tool.specs.Calls.{FolderCall, SinkCall}
 use Rattle.command_line.specs.Requests.{Request, Check, Record, Replay, Show, Derive, Run, Seek, Isolate, Reduce, Races, Tiles, Drill}
 use Rattle.dejavu_tool.specs.Answers.{Derives, Drills, Isolates, ListsTiles, Reduces, ReportsRaces, Runs, Seeks, Shows}
 

@@ -1,11 +1,5 @@
-pub mod Statuses
-pub mod Lines
-pub mod Accepting
 pub mod Checking
-pub mod Calls
-pub mod Files
 pub mod Runs
 pub mod Answers
-pub mod Stages
 pub mod Headline
 pub mod Completeness

@@ -26,9 +26,9 @@ use Rattle.race_report.specs.Races.{IsReport}
 use Rattle.report_writer.specs.Reduced.{reduced_text}
 use Rattle.report_writer.specs.State.{state_text}
 use Rattle.report_writer.specs.Texts.{counted, isolated_text, races_text, run_text}
-use Rattle.dejavu_tool.specs.declared.status.Status.{Status}
-use Rattle.dejavu_tool.specs.declared.status.Status.TheVariants as status
-use Rattle.dejavu_tool.specs.Lines.{diverged_line, not_failing_line, not_found_line, not_passing_line, tests_spent_line, too_many_line}
+use Rattle.tool_stages.specs.declared.status.Status.{Status}
+use Rattle.tool_stages.specs.declared.status.Status.TheVariants as status
+use Rattle.tool_stages.specs.Lines.{diverged_line, not_failing_line, not_found_line, not_passing_line, tests_spent_line, too_many_line}
 
 -- the log's threads lead the program to an end of the log's kind, and that run is what is printed
 pub record TellsRun (p : PlainProgram) (log : PlainLog) (printed : List ℕ) : Type 0 where

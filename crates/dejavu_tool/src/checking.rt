@@ -1,17 +1,16 @@
 //! Checking: how much a program has.
 
 ghost use Rattle.std.specs.Prelude.{◌≡◌, ◌++◌, decimal, IfOk, IfErr, OnOk, take, length, ◌-◌};
-ghost use Rattle.dejavu_tool.specs.Answers.{Checks};
-ghost use Rattle.dejavu_tool.specs.Calls.{folder_call};
+ghost use Rattle.tool_stages.specs.Calls.{folder_call};
+ghost use Rattle.tool_stages.specs.Stages.{CountsLoads};
+ghost use Rattle.dejavu_tool.specs.Answers.{Checks, Halts};
 ghost use Rattle.dejavu_tool.specs.Checking as spec;
 ghost use Rattle.command_line.specs.Requests.{Check};
-ghost use Rattle.dejavu_tool.specs.Stages.{CountsLoads, Halts};
 
-use crate::halt::Halt;
-use crate::loading::load_program;
 use itoa::Buffer;
 use std::alloc::Global;
 use tool_io::Folder;
+use tool_stages::{Halt, load_program};
 use vm_model::{Method, NoMemory, Program};
 
 /// How many instructions methods have.

@@ -4,24 +4,20 @@ ghost use Rattle.std.specs.Prelude.{◌≡◌, IfOk, IfErr, length};
 ghost use Rattle.schedule_log.specs.Logs.{IsLawful};
 ghost use Rattle.switch_schedule.specs.Derivations.{EndsAsTold, IsDerived};
 ghost use Rattle.command_line.specs.Requests.{Derive};
-ghost use Rattle.dejavu_tool.specs.Answers.{Derives};
-ghost use Rattle.dejavu_tool.specs.Calls.{folder_call};
+ghost use Rattle.tool_stages.specs.Calls.{folder_call};
+ghost use Rattle.tool_stages.specs.Stages.{CountsLoads, HaltsBy};
+ghost use Rattle.dejavu_tool.specs.Answers.{Derives, Halts};
 ghost use Rattle.dejavu_tool.specs.Runs.{DeriveStops, TellsDerived};
-ghost use Rattle.dejavu_tool.specs.Stages.{CountsLoads, Halts, HaltsBy};
 ghost use Rattle.std.specs.Prelude.{◌≤◌};
 ghost use Rattle.vm_model.specs.declared.limits.TheConstants.{MOST_SWITCHES};
 
-use crate::halt::Halt;
-use crate::lines;
-use crate::loading::{load_log, load_program};
-use crate::status::Status;
-use crate::storing::store_file;
 use report_writer::put_counted;
 use schedule_log::Log;
 use schedule_model::Schedule;
 use std::alloc::Global;
 use switch_schedule::{DeriveFault, schedule_of, write_schedule};
 use tool_io::Folder;
+use tool_stages::{Halt, Status, lines, load_log, load_program, store_file};
 use vm_model::Plain;
 
 /// The file of a schedule, and what is printed of it.

@@ -6,23 +6,21 @@ ghost use Rattle.machine_model.specs.Machine.{end_of, start_machine};
 ghost use Rattle.schedule_log.specs.Spelling.{Spells};
 ghost use Rattle.thread_driver.specs.Recordings.{IsRecording};
 ghost use Rattle.command_line.specs.Requests.{Drill};
-ghost use Rattle.dejavu_tool.specs.Answers.{Drills, TellsDrill};
+ghost use Rattle.tool_stages.specs.Calls.{folder_call};
+ghost use Rattle.tool_stages.specs.Stages.{CountsLoads, HaltsBy, TextStops};
+ghost use Rattle.dejavu_tool.specs.Answers.{Drills, Halts, TellsDrill};
 ghost use Rattle.dejavu_tool.specs.Checking.{count_line};
-ghost use Rattle.dejavu_tool.specs.Calls.{folder_call};
 ghost use Rattle.dejavu_tool.specs.Runs.{TellsRecording};
-ghost use Rattle.dejavu_tool.specs.Stages.{CountsLoads, Halts, HaltsBy, TextStops};
 
 use crate::checking::put_count;
-use crate::halt::Halt;
-use crate::loading::program_of;
 use crate::recording::{Recorded, run_recorded};
-use crate::storing::store_file;
 use drill_program::drill_text;
 use report_writer::run_text;
 use schedule_log::{Log, LogFault, decode};
 use std::alloc::Global;
 use thread_driver::{Recording, ReplayFault, replay_still};
 use tool_io::Folder;
+use tool_stages::{Halt, program_of, store_file};
 use vm_model::{MOST_EVENTS, NoMemory, Plain};
 
 /// The log of a recording, read from its bytes.

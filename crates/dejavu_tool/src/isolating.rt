@@ -5,21 +5,18 @@ ghost use Rattle.vm_model.specs.declared.limits.TheConstants.{MOST_EVENTS, MOST_
 ghost use Rattle.machine_model.specs.Machine.{end_of, start_machine};
 ghost use Rattle.program_isolator.specs.Isolations.{IsIsolation};
 ghost use Rattle.command_line.specs.Requests.{Isolate};
-ghost use Rattle.dejavu_tool.specs.Answers.{Isolates};
-ghost use Rattle.dejavu_tool.specs.Calls.{folder_call};
+ghost use Rattle.tool_stages.specs.Calls.{folder_call};
+ghost use Rattle.tool_stages.specs.Stages.{CountsLoads, HaltsBy};
+ghost use Rattle.dejavu_tool.specs.Answers.{Halts, Isolates};
 ghost use Rattle.dejavu_tool.specs.Runs.{IsolateStops, TellsIsolated};
-ghost use Rattle.dejavu_tool.specs.Stages.{CountsLoads, Halts, HaltsBy};
 
-use crate::halt::Halt;
-use crate::lines;
-use crate::loading::{load_program, load_schedule};
-use crate::status::Status;
 use program_isolator::{IsolationRefusal, isolate_program};
 use report_writer::isolated_text;
 use schedule_model::{Isolated, Schedule};
 use std::alloc::Global;
 use std::thread::Threads;
 use tool_io::Folder;
+use tool_stages::{Halt, Status, lines, load_program, load_schedule};
 use vm_model::Plain;
 
 /// What is found between the two schedules.

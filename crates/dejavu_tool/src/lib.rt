@@ -4,12 +4,8 @@
 mod checking;
 mod derivation;
 mod drilling;
-mod halt;
 mod isolating;
 pub mod laws;
-mod lines;
-mod loading;
-mod programs;
 mod racing;
 mod recording;
 mod reducing;
@@ -17,11 +13,8 @@ mod replaying;
 mod running;
 mod seeking;
 mod showing;
-mod status;
-mod storing;
 mod tiling;
 mod top;
 
-pub use programs::{ProgramFault, accept, linked_program};
-pub use status::Status;
+pub use tool_stages::{ProgramFault, Status, accept, linked_program};
 pub use top::{dejavu, still_command};

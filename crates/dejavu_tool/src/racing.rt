@@ -6,13 +6,11 @@ ghost use Rattle.machine_model.specs.Machine.{end_of, run};
 ghost use Rattle.schedule_log.specs.Logs.{expansion};
 ghost use Rattle.event_machine.specs.MachineView.{machine_of};
 ghost use Rattle.command_line.specs.Requests.{Races};
-ghost use Rattle.dejavu_tool.specs.Answers.{ReportsRaces};
-ghost use Rattle.dejavu_tool.specs.Calls.{folder_call};
+ghost use Rattle.tool_stages.specs.Calls.{folder_call};
+ghost use Rattle.tool_stages.specs.Stages.{CountsLoads, HaltsBy};
+ghost use Rattle.dejavu_tool.specs.Answers.{Halts, ReportsRaces};
 ghost use Rattle.dejavu_tool.specs.Runs.{RunStops, TellsRaces};
-ghost use Rattle.dejavu_tool.specs.Stages.{CountsLoads, Halts, HaltsBy};
 
-use crate::halt::Halt;
-use crate::loading::{load_log, load_program};
 use crate::replaying::replayed;
 use event_machine::Machine;
 use race_report::races;
@@ -21,6 +19,7 @@ use schedule_log::Log;
 use std::alloc::Global;
 use thread_driver::{ReplayFault, replay_until};
 use tool_io::Folder;
+use tool_stages::{Halt, load_log, load_program};
 use vm_model::{NoMemory, Plain};
 
 /// The machine after the log's run, which ends as the log says.

@@ -6,14 +6,11 @@ ghost use Rattle.machine_model.specs.Machine.{end_of, start_machine};
 ghost use Rattle.schedule_log.specs.Spelling.{Spells};
 ghost use Rattle.thread_driver.specs.Recordings.{IsRecording};
 ghost use Rattle.command_line.specs.Requests.{Record};
-ghost use Rattle.dejavu_tool.specs.Answers.{Records};
-ghost use Rattle.dejavu_tool.specs.Calls.{folder_call};
+ghost use Rattle.tool_stages.specs.Calls.{folder_call};
+ghost use Rattle.tool_stages.specs.Stages.{CountsLoads};
+ghost use Rattle.dejavu_tool.specs.Answers.{Halts, Records};
 ghost use Rattle.dejavu_tool.specs.Runs.{TellsRecording, TellsRun};
-ghost use Rattle.dejavu_tool.specs.Stages.{CountsLoads, Halts};
 
-use crate::halt::Halt;
-use crate::loading::load_program;
-use crate::storing::store_file;
 use gate_core::Meeting;
 use lane_driver::record_lanes;
 use report_writer::run_text;
@@ -23,6 +20,7 @@ use std::sync::Wait;
 use std::thread::Threads;
 use thread_driver::{Recording, record_still};
 use tool_io::Folder;
+use tool_stages::{Halt, load_program, store_file};
 use vm_model::{NoMemory, Plain};
 
 /// The file of a run's log, and what is printed of the run.

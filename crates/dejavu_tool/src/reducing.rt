@@ -6,16 +6,11 @@ ghost use Rattle.machine_model.specs.Machine.{end_of, start_machine};
 ghost use Rattle.program_reducer.specs.Reductions.{IsReduction};
 ghost use Rattle.switch_schedule.specs.Texts.{AreTimes};
 ghost use Rattle.command_line.specs.Requests.{Reduce};
-ghost use Rattle.dejavu_tool.specs.Answers.{Reduces};
-ghost use Rattle.dejavu_tool.specs.Calls.{folder_call};
+ghost use Rattle.tool_stages.specs.Calls.{folder_call};
+ghost use Rattle.tool_stages.specs.Stages.{CountsLoads, HaltsBy};
+ghost use Rattle.dejavu_tool.specs.Answers.{Halts, Reduces};
 ghost use Rattle.dejavu_tool.specs.Runs.{ReduceStops, TellsReduced};
-ghost use Rattle.dejavu_tool.specs.Stages.{CountsLoads, Halts, HaltsBy};
 
-use crate::halt::Halt;
-use crate::lines;
-use crate::loading::{load_program, load_schedule};
-use crate::status::Status;
-use crate::storing::store_file;
 use program_reducer::{ReductionRefusal, reduce_program};
 use report_writer::reduced_text;
 use schedule_model::Schedule;
@@ -24,6 +19,7 @@ use std::thread::Threads;
 use switch_reducer::Reduced;
 use switch_schedule::write_schedule;
 use tool_io::Folder;
+use tool_stages::{Halt, Status, lines, load_program, load_schedule, store_file};
 use vm_model::{NoMemory, Plain};
 
 /// The file of what is left of a schedule, and what is printed of it.

@@ -5,15 +5,11 @@ ghost use Rattle.vm_model.specs.declared.limits.TheConstants.{MOST_LANES};
 ghost use Rattle.thread_driver.specs.Answers.{Refuses};
 ghost use Rattle.thread_driver.specs.Recordings.{IsRecording};
 ghost use Rattle.command_line.specs.Requests.{Replay};
-ghost use Rattle.dejavu_tool.specs.Answers.{Replays};
-ghost use Rattle.dejavu_tool.specs.Calls.{folder_call};
+ghost use Rattle.tool_stages.specs.Calls.{folder_call};
+ghost use Rattle.tool_stages.specs.Stages.{CountsLoads, HaltsBy};
+ghost use Rattle.dejavu_tool.specs.Answers.{Halts, Replays};
 ghost use Rattle.dejavu_tool.specs.Runs.{RunStops, TellsRun};
-ghost use Rattle.dejavu_tool.specs.Stages.{CountsLoads, Halts, HaltsBy};
 
-use crate::halt::Halt;
-use crate::lines;
-use crate::loading::{load_log, load_program};
-use crate::status::Status;
 use gate_core::Meeting;
 use lane_driver::replay_lanes;
 use report_writer::run_text;
@@ -23,6 +19,7 @@ use std::sync::Wait;
 use std::thread::Threads;
 use thread_driver::{Recording, ReplayFault, replay_still};
 use tool_io::Folder;
+use tool_stages::{Halt, Status, lines, load_log, load_program};
 use vm_model::{NoMemory, Plain};
 
 /// A replay, or why there was none.

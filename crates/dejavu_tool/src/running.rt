@@ -4,18 +4,17 @@ ghost use Rattle.std.specs.Prelude.{◌≡◌, ◌≤◌, None, IfOk, IfErr, len
 ghost use Rattle.vm_model.specs.declared.limits.TheConstants.{MOST_EVENTS, MOST_SWITCHES};
 ghost use Rattle.machine_model.specs.Machine.{end_of, start_machine};
 ghost use Rattle.command_line.specs.Requests.{Run};
-ghost use Rattle.dejavu_tool.specs.Answers.{Runs};
-ghost use Rattle.dejavu_tool.specs.Calls.{folder_call};
+ghost use Rattle.tool_stages.specs.Calls.{folder_call};
+ghost use Rattle.tool_stages.specs.Stages.{CountsLoads};
+ghost use Rattle.dejavu_tool.specs.Answers.{Halts, Runs};
 ghost use Rattle.dejavu_tool.specs.Runs.{TellsScheduled};
-ghost use Rattle.dejavu_tool.specs.Stages.{CountsLoads, Halts};
 
-use crate::halt::Halt;
-use crate::loading::{load_program, load_schedule};
 use report_writer::run_text;
 use schedule_model::Schedule;
 use std::alloc::Global;
 use switch_schedule::run_schedule;
 use tool_io::Folder;
+use tool_stages::{Halt, load_program, load_schedule};
 use vm_model::{NoMemory, Plain};
 
 /// What is printed of the run of a schedule, of at most so many events.

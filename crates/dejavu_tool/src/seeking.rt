@@ -6,21 +6,17 @@ ghost use Rattle.vm_model.specs.declared.limits.TheConstants.{MOST_EVENTS};
 ghost use Rattle.machine_model.specs.Machine.{end_of, start_machine};
 ghost use Rattle.switch_schedule.specs.Searches.{IsFirstFault};
 ghost use Rattle.command_line.specs.Requests.{Seek};
-ghost use Rattle.dejavu_tool.specs.Answers.{Seeks};
-ghost use Rattle.dejavu_tool.specs.Calls.{folder_call};
+ghost use Rattle.tool_stages.specs.Calls.{folder_call};
+ghost use Rattle.tool_stages.specs.Stages.{CountsLoads, HaltsBy};
+ghost use Rattle.dejavu_tool.specs.Answers.{Halts, Seeks};
 ghost use Rattle.dejavu_tool.specs.Runs.{SeekStops, TellsSought};
-ghost use Rattle.dejavu_tool.specs.Stages.{CountsLoads, Halts, HaltsBy};
 
-use crate::halt::Halt;
-use crate::lines;
-use crate::loading::load_program;
-use crate::status::Status;
-use crate::storing::store_file;
 use report_writer::{put_counted, run_text};
 use schedule_model::Schedule;
 use std::alloc::Global;
 use switch_schedule::{Ran, Sought, seek, write_schedule};
 use tool_io::Folder;
+use tool_stages::{Halt, Status, lines, load_program, store_file};
 use vm_model::{NoMemory, Plain};
 
 /// The file of a schedule that was found, and what is printed of it.

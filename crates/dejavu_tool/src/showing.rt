@@ -2,26 +2,23 @@
 
 ghost use Rattle.std.specs.Prelude.{◌≡◌, IfOk, IfErr};
 ghost use Rattle.command_line.specs.Requests.{Show};
-ghost use Rattle.dejavu_tool.specs.Answers.{Shows};
-ghost use Rattle.dejavu_tool.specs.Calls.{folder_call};
+ghost use Rattle.tool_stages.specs.Calls.{folder_call};
+ghost use Rattle.tool_stages.specs.Stages.{CountsLoads, HaltsBy};
+ghost use Rattle.dejavu_tool.specs.Answers.{Halts, Shows};
 ghost use Rattle.dejavu_tool.specs.Runs.{StateStops, TellsState};
-ghost use Rattle.dejavu_tool.specs.Stages.{CountsLoads, Halts, HaltsBy};
 ghost use Rattle.event_machine.specs.MachineView.{machine_of};
 ghost use Rattle.machine_model.specs.Machine.{run};
 ghost use Rattle.linking_laws.specs.Limits.{HasFewClasses, HasFewStatics};
 ghost use Rattle.schedule_log.specs.Logs.{expansion};
 ghost use Rattle.std.specs.Prelude.{Some, take};
 
-use crate::halt::Halt;
-use crate::lines;
-use crate::loading::{load_log, load_program};
-use crate::status::Status;
 use event_machine::Machine;
 use report_writer::state_text;
 use schedule_log::Log;
 use std::alloc::Global;
 use thread_driver::{ReplayFault, replay_until};
 use tool_io::Folder;
+use tool_stages::{Halt, Status, lines, load_log, load_program};
 use vm_model::Plain;
 
 /// The machine after the log's events below the clock.

@@ -2,15 +2,14 @@
 
 ghost use Rattle.std.specs.Prelude.{◌≡◌, IfOk, IfErr};
 ghost use Rattle.command_line.specs.Requests.{Tiles};
-ghost use Rattle.dejavu_tool.specs.Answers.{ListsTiles};
-ghost use Rattle.dejavu_tool.specs.Calls.{folder_call};
-ghost use Rattle.dejavu_tool.specs.Stages.{CountsLoads, Halts};
+ghost use Rattle.tool_stages.specs.Calls.{folder_call};
+ghost use Rattle.tool_stages.specs.Stages.{CountsLoads};
+ghost use Rattle.dejavu_tool.specs.Answers.{Halts, ListsTiles};
 
-use crate::halt::Halt;
-use crate::loading::load_log;
 use report_writer::tiles_text;
 use std::alloc::Global;
 use tool_io::Folder;
+use tool_stages::{Halt, load_log};
 
 /// Lists the intervals of the log. What is printed is the result.
 pub fn tiles_file<F: Folder>(alloc: Global, log: &str, folder: &mut F) -> Result<Vec<u8>, Halt>

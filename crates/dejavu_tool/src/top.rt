@@ -1,18 +1,16 @@
 ghost use Rattle.std.specs.Prelude.{◌≡◌, IfOk, IfErr, map, string_bytes};
 ghost use Rattle.command_line.specs.Plain.{IsWithin, plain_command};
 ghost use Rattle.command_line.specs.Requests.{request_of};
-ghost use Rattle.dejavu_tool.specs.Answers.{Answers, Does, on_one_lane};
-ghost use Rattle.dejavu_tool.specs.Calls.{folder_call, sink_call};
+ghost use Rattle.tool_stages.specs.Calls.{folder_call, sink_call};
+ghost use Rattle.tool_stages.specs.Stages.{CountsLoads, HaltsBy};
+ghost use Rattle.dejavu_tool.specs.Answers.{Answers, CountsAnswer, Does, Halts, PutsUnlessFault, UsageTold, on_one_lane};
 ghost use Rattle.dejavu_tool.specs.Completeness.{IsComplete};
 ghost use Rattle.dejavu_tool.specs.Headline.{CheckHolds, DeriveHolds, DrillHolds, IsolationHolds, RacesHold, RecordingHolds, ReduceHolds, ReplayHolds, RunHolds, SeekHolds, ShowHolds, TilesHold};
-ghost use Rattle.dejavu_tool.specs.Stages.{CountsAnswer, CountsLoads, Halts, HaltsBy, PutsUnlessFault, UsageTold};
 
 use crate::checking::check_file;
 use crate::derivation::derive_file;
 use crate::drilling::drill_file;
-use crate::halt::Halt;
 use crate::isolating::isolate_file;
-use crate::lines;
 use crate::racing::races_file;
 use crate::recording::{record_file, record_file_by};
 use crate::reducing::reduce_file;
@@ -20,7 +18,6 @@ use crate::replaying::{replay_file, replay_file_by};
 use crate::running::run_file;
 use crate::seeking::seek_file;
 use crate::showing::show_file;
-use crate::status::Status;
 use crate::tiling::tiles_file;
 use command_line::{Command, command_in};
 use gate_core::Meeting;
@@ -28,6 +25,7 @@ use std::alloc::Global;
 use std::sync::Wait;
 use std::thread::Threads;
 use tool_io::{Folder, Sink, put_all};
+use tool_stages::{Halt, Status, lines};
 
 /// What the words of no command get.
 fn unknown(alloc: Global) -> Result<Vec<u8>, Halt>

@@ -1,9 +1,9 @@
 // Which texts are verified. The rows follow JVMS SE 8 §4.10.1.9 and §4.10.2.2, in the project's own profile.
 
-use dejavu_tool::{ProgramFault, accept};
 use shape_verifier::ShapeKind;
 use std::alloc::Global;
 use std::test::Fail;
+use tool_stages::{ProgramFault, accept};
 
 /// A text whose first method has this head, from its parameters on, and this code.
 fn text_of(alloc: Global, head: &[u8], code: &[u8]) -> Result<Vec<u8>, Fail> {

@@ -1,7 +1,7 @@
 -- A store that fails comes after two loads that only read.
 use Rattle.std.proofs.Common.{refl, sym, ◌∙◌}
 use Rattle.std.proofs.lemmas.Result.{err_from_is_err_and}
-use Rattle.dejavu_tool.specs.Calls.{folder_call}
+use Rattle.tool_stages.specs.Calls.{folder_call}
 use Rattle.dejavu_tool.proofs.Composing.{derive_store}
 use Rattle.dejavu_tool.proofs.Earlier.{log_earlier, program_earlier}
 use Rattle.dejavu_tool.proofs.derivation.derive_file.Goals as goal

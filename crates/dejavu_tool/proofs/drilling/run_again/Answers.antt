@@ -7,8 +7,9 @@ use Rattle.schedule_log.specs.Logs.{PlainLog}
 use Rattle.schedule_log.specs.Reading.{read_log}
 use Rattle.thread_driver.specs.Answers.{Refuses}
 use Rattle.thread_driver.specs.Recordings.{Diverges}
+use Rattle.tool_stages.proofs.Telling.{same_ok}
 use Rattle.dejavu_tool.proofs.Completing.{doesnt_diverge}
-use Rattle.dejavu_tool.proofs.Repeating.{same_ok, spelled_is_read}
+use Rattle.dejavu_tool.proofs.Repeating.{spelled_is_read}
 use Rattle.dejavu_tool.proofs.drilling.run_again.Goals as goal
 
 pub unreachable-requires : goal.unreachable-requires

@@ -2,8 +2,8 @@
 use Rattle.std.proofs.Common.{refl, sym, subst, ◌∙◌, arith}
 use Rattle.std.proofs.lemmas.Result.{err_from_is_err_and}
 use Rattle.vm_model.specs.Program.{PlainProgram}
-use Rattle.dejavu_tool.specs.Calls.{folder_call}
-use Rattle.dejavu_tool.specs.Files.{LoadsProgram}
+use Rattle.tool_stages.specs.Calls.{folder_call}
+use Rattle.tool_stages.specs.Files.{LoadsProgram}
 use Rattle.dejavu_tool.proofs.Earlier.{fail_halts, isolate_halts_so, isolates_so, program_earlier, schedule_earlier}
 use Rattle.dejavu_tool.proofs.isolating.isolate_file.Goals as goal
 

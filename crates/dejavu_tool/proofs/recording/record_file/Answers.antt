@@ -1,8 +1,8 @@
 -- A store that fails comes after a load that only read.
 use Rattle.std.proofs.Common.{refl, sym}
 use Rattle.std.proofs.lemmas.Result.{err_from_is_err_and}
+use Rattle.tool_stages.specs.Calls.{folder_call}
 use Rattle.dejavu_tool.proofs.Composing.{then_store}
-use Rattle.dejavu_tool.specs.Calls.{folder_call}
 use Rattle.dejavu_tool.proofs.recording.record_file.Goals as goal
 
 pub returns-in_err-store_file-clause-halts : goal.returns-in_err-store_file-clause-halts

@@ -1,5 +1,0 @@
-use Rattle.dejavu_tool.proofs.Linked.{begins}
-use Rattle.dejavu_tool.proofs.laws.accepted_program_begins.Goals as goal
-
-pub returns : goal.returns
-returns c = λ text p budget accepted some. begins text p budget accepted.links accepted.verified some

@@ -1,9 +1,0 @@
-use Rattle.dejavu_tool.proofs.FirstValues.{first_values_fit}
-use Rattle.dejavu_tool.proofs.Linked.{steps_of}
-use Rattle.dejavu_tool.proofs.laws.first_values_of_statics_fit.Goals as goal
-
-pub returns : goal.returns
-returns c = record {
-  linked = λ classes p e. first_values_fit classes p e;
-  accepted = λ text p accepted. let s = steps_of text p accepted.links in first_values_fit s.classes p s.links;
-}
