@@ -1,5 +1,7 @@
-//! Tests of shapes: which texts are verified, and for which fault and where the others are refused.
+//! Tests of shapes: which programs and which texts are verified, and for which fault and where the others are refused.
 #![tactic(auto)]
 
 #[cfg(test)]
-mod shapes;
+mod programs;
+#[cfg(test)]
+mod texts;
