@@ -1,6 +1,7 @@
 -- The commands of the tool and the arguments that each takes, as clap reads them.
 use Rattle.std.specs.Prelude.{ℕ, true, List, [], ◌∷◌, Option, Some, None, if◌then◌else◌, codes}
 use Rattle.std.specs.Str.{bytes_eq}
+use Rattle.vm_model.specs.declared.limits.TheConstants.{MOST_DRILL_WORKERS, MOST_EVENTS, MOST_LANES, MOST_TESTS, MOST_TRIES, MOST_WORKERS}
 use Rattle.clap.specs.Words.{App, Rule, new_app, new_rule, with_rule}
 use Rattle.clap.specs.Simple.{on_top}
 use Rattle.clap.specs.declared.builder.value_parser.ValueParser.TheVariants as parser
@@ -36,15 +37,15 @@ with_option id least most default a = with_rule a (option_rule id least most def
 
 -- how many events a run may make
 abbrev pub with_events : App → App
-with_events a = with_option (codes "events") 1 1048576 (codes "1048576") a
+with_events a = with_option (codes "events") 1 MOST_EVENTS (codes "1048576") a
 
 -- on how many lanes a program runs
 abbrev pub with_lanes : App → App
-with_lanes a = with_option (codes "lanes") 1 16 (codes "1") a
+with_lanes a = with_option (codes "lanes") 1 MOST_LANES (codes "1") a
 
 -- how many tests a search may ask for
 abbrev pub with_tests : App → App
-with_tests a = with_option (codes "tests") 1 1099511627776 (codes "1048576") a
+with_tests a = with_option (codes "tests") 1 MOST_TESTS (codes "1048576") a
 
 unfoldable pub check_app : App
 check_app = with_text (codes "P") (bare (codes "check"))
@@ -56,7 +57,7 @@ unfoldable pub replay_app : App
 replay_app = with_lanes (with_text (codes "LOG") (with_text (codes "P") (bare (codes "replay"))))
 
 unfoldable pub show_app : App
-show_app = with_number (codes "CLOCK") 0 1048576 (with_text (codes "LOG") (with_text (codes "P") (bare (codes "show"))))
+show_app = with_number (codes "CLOCK") 0 MOST_EVENTS (with_text (codes "LOG") (with_text (codes "P") (bare (codes "show"))))
 
 unfoldable pub derive_app : App
 derive_app = with_text (codes "SCHED") (with_text (codes "LOG") (with_text (codes "P") (bare (codes "derive"))))
@@ -67,11 +68,11 @@ run_app = with_events (with_text (codes "SCHED") (with_text (codes "P") (bare (c
 unfoldable pub seek_app : App
 seek_app =
     with_events (with_text (codes "SCHED")
-    (with_number (codes "TRIES") 1 65536 (with_number (codes "SEED") 0 18446744073709551615 (with_text (codes "P") (bare (codes "seek"))))))
+    (with_number (codes "TRIES") 1 MOST_TRIES (with_number (codes "SEED") 0 18446744073709551615 (with_text (codes "P") (bare (codes "seek"))))))
 
 unfoldable pub isolate_app : App
 isolate_app =
-    with_events (with_option (codes "workers") 1 16 (codes "1") (with_tests
+    with_events (with_option (codes "workers") 1 MOST_WORKERS (codes "1") (with_tests
     (with_text (codes "FAIL") (with_text (codes "PASS") (with_text (codes "P") (bare (codes "isolate")))))))
 
 unfoldable pub reduce_app : App
@@ -84,7 +85,7 @@ unfoldable pub tiles_app : App
 tiles_app = with_text (codes "LOG") (bare (codes "tiles"))
 
 unfoldable pub drill_app : App
-drill_app = with_text (codes "P") (with_number (codes "K") 1 60 (bare (codes "drill")))
+drill_app = with_text (codes "P") (with_number (codes "K") 1 MOST_DRILL_WORKERS (bare (codes "drill")))
 
 -- ---- the table: the first word of a command, and the command
 

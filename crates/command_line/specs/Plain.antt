@@ -1,5 +1,6 @@
 -- Commands as the code has them, and the requests that they are.
 use Rattle.std.specs.Prelude.{◌≡◌, ◌≤◌, ℕ, List, if◌then◌else◌}
+use Rattle.vm_model.specs.declared.limits.TheConstants.{MOST_DRILL_WORKERS, MOST_EVENTS, MOST_LANES, MOST_TESTS, MOST_TRIES, MOST_WORKERS}
 use Rattle.clap.specs.Words.{App, matches_of}
 use Rattle.command_line.specs.declared.command.Command as code
 use Rattle.command_line.specs.declared.command.Command.TheVariants as command
@@ -23,25 +24,25 @@ plain_command (command.Drill workers program) = request.Drill workers program.no
 plain_command command.Unknown = request.Unknown
 
 abbrev pub IsEvents : ℕ → Type 0
-IsEvents events = (1 ≤ events) × (events ≤ 1048576)
+IsEvents events = (1 ≤ events) × (events ≤ MOST_EVENTS)
 
 abbrev pub IsLanes : ℕ → Type 0
-IsLanes lanes = (1 ≤ lanes) × (lanes ≤ 16)
+IsLanes lanes = (1 ≤ lanes) × (lanes ≤ MOST_LANES)
 
 -- the numbers of a command are within their bounds
 abbrev pub IsWithin : code.Command → Type 0
 IsWithin (command.Check program) = Unit {0}
 IsWithin (command.Record program log lanes events) = IsLanes lanes × IsEvents events
 IsWithin (command.Replay program log lanes) = IsLanes lanes
-IsWithin (command.Show program log clock) = clock ≤ 1048576
+IsWithin (command.Show program log clock) = clock ≤ MOST_EVENTS
 IsWithin (command.Derive program log schedule) = Unit {0}
 IsWithin (command.Run program schedule events) = IsEvents events
-IsWithin (command.Seek program seed tries schedule events) = (1 ≤ tries) × (tries ≤ 65536) × (1 ≤ events) × (events ≤ 1048576)
-IsWithin (command.Isolate program pass fail tests workers events) = (1 ≤ tests) × (tests ≤ 1099511627776) × (1 ≤ workers) × (workers ≤ 16) × (1 ≤ events) × (events ≤ 1048576)
-IsWithin (command.Reduce program fail schedule tests events) = (1 ≤ tests) × (tests ≤ 1099511627776) × (1 ≤ events) × (events ≤ 1048576)
+IsWithin (command.Seek program seed tries schedule events) = (1 ≤ tries) × (tries ≤ MOST_TRIES) × (1 ≤ events) × (events ≤ MOST_EVENTS)
+IsWithin (command.Isolate program pass fail tests workers events) = (1 ≤ tests) × (tests ≤ MOST_TESTS) × (1 ≤ workers) × (workers ≤ MOST_WORKERS) × (1 ≤ events) × (events ≤ MOST_EVENTS)
+IsWithin (command.Reduce program fail schedule tests events) = (1 ≤ tests) × (tests ≤ MOST_TESTS) × (1 ≤ events) × (events ≤ MOST_EVENTS)
 IsWithin (command.Races program log) = Unit {0}
 IsWithin (command.Tiles log) = Unit {0}
-IsWithin (command.Drill workers program) = (1 ≤ workers) × (workers ≤ 60)
+IsWithin (command.Drill workers program) = (1 ≤ workers) × (workers ≤ MOST_DRILL_WORKERS)
 IsWithin command.Unknown = Unit {0}
 
 -- the command is that of the words, as far as clap takes them

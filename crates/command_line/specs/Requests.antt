@@ -1,6 +1,7 @@
 -- What the words of the command line ask for.
 use Rattle.std.specs.Prelude.{ℕ, Bool, true, false, List, [], ◌∷◌, Option, Some, None, if◌then◌else◌, unwrap_or, codes}
 use Rattle.std.specs.Str.Parse.{digits_value, without_leading_plus}
+use Rattle.vm_model.specs.declared.limits.TheConstants.{MOST_DRILL_WORKERS, MOST_EVENTS, MOST_LANES, MOST_TESTS, MOST_TRIES, MOST_WORKERS}
 use Rattle.clap.specs.Words.{App, Kinds, Row, fault_of, first_of, matches_of}
 use Rattle.clap.specs.ValueTests.{is_unsigned_in}
 use Rattle.command_line.specs.Commands.{Word, app_of_word, word_of}
@@ -49,13 +50,13 @@ abbrev pub number_in : List ℕ → ℕ → ℕ → List Row → ℕ
 number_in id least most rows = spelled least most (text_in id rows)
 
 abbrev pub events_in : List Row → ℕ
-events_in rows = number_in (codes "events") 1 1048576 rows
+events_in rows = number_in (codes "events") 1 MOST_EVENTS rows
 
 abbrev pub lanes_in : List Row → ℕ
-lanes_in rows = number_in (codes "lanes") 1 16 rows
+lanes_in rows = number_in (codes "lanes") 1 MOST_LANES rows
 
 abbrev pub tests_in : List Row → ℕ
-tests_in rows = number_in (codes "tests") 1 1099511627776 rows
+tests_in rows = number_in (codes "tests") 1 MOST_TESTS rows
 
 -- ---- requests
 
@@ -64,17 +65,17 @@ abbrev pub request_with : Word → List Row → Request
 request_with word.Check rows = Check (text_in (codes "P") rows)
 request_with word.Record rows = Record (text_in (codes "P") rows) (text_in (codes "LOG") rows) (lanes_in rows) (events_in rows)
 request_with word.Replay rows = Replay (text_in (codes "P") rows) (text_in (codes "LOG") rows) (lanes_in rows)
-request_with word.Show rows = Show (text_in (codes "P") rows) (text_in (codes "LOG") rows) (number_in (codes "CLOCK") 0 1048576 rows)
+request_with word.Show rows = Show (text_in (codes "P") rows) (text_in (codes "LOG") rows) (number_in (codes "CLOCK") 0 MOST_EVENTS rows)
 request_with word.Derive rows = Derive (text_in (codes "P") rows) (text_in (codes "LOG") rows) (text_in (codes "SCHED") rows)
 request_with word.Run rows = Run (text_in (codes "P") rows) (text_in (codes "SCHED") rows) (events_in rows)
 request_with word.Seek rows =
-    Seek (text_in (codes "P") rows) (number_in (codes "SEED") 0 18446744073709551615 rows) (number_in (codes "TRIES") 1 65536 rows) (text_in (codes "SCHED") rows) (events_in rows)
+    Seek (text_in (codes "P") rows) (number_in (codes "SEED") 0 18446744073709551615 rows) (number_in (codes "TRIES") 1 MOST_TRIES rows) (text_in (codes "SCHED") rows) (events_in rows)
 request_with word.Isolate rows =
-    Isolate (text_in (codes "P") rows) (text_in (codes "PASS") rows) (text_in (codes "FAIL") rows) (tests_in rows) (number_in (codes "workers") 1 16 rows) (events_in rows)
+    Isolate (text_in (codes "P") rows) (text_in (codes "PASS") rows) (text_in (codes "FAIL") rows) (tests_in rows) (number_in (codes "workers") 1 MOST_WORKERS rows) (events_in rows)
 request_with word.Reduce rows = Reduce (text_in (codes "P") rows) (text_in (codes "FAIL") rows) (text_in (codes "OUT") rows) (tests_in rows) (events_in rows)
 request_with word.Races rows = Races (text_in (codes "P") rows) (text_in (codes "LOG") rows)
 request_with word.Tiles rows = Tiles (text_in (codes "LOG") rows)
-request_with word.Drill rows = Drill (number_in (codes "K") 1 60 rows) (text_in (codes "P") rows)
+request_with word.Drill rows = Drill (number_in (codes "K") 1 MOST_DRILL_WORKERS rows) (text_in (codes "P") rows)
 
 abbrev pub is_none : Kinds → Bool
 is_none [] = true

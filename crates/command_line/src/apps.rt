@@ -8,6 +8,7 @@ ghost use Rattle.command_line.specs.Words.{plain_word};
 use clap::builder::ValueParser;
 use clap::{Arg, Command};
 use std::alloc::{AllocError, Global};
+use vm_model::{MOST_DRILL_WORKERS, MOST_EVENTS, MOST_LANES, MOST_TESTS, MOST_TRIES, MOST_WORKERS};
 
 /// The first words of the commands.
 #[derive(Clone, Copy)]
@@ -78,19 +79,19 @@ fn with_option<'a>(
 fn with_events<'a>(command: Command<'a>, alloc: Global) -> Result<Command<'a>, AllocError>
     ensures { IfOk result (λ c. app_of c ≡ spec.with_events (app_of command.entry)) }
 {
-    with_option(command, alloc, "events", 1, 1_048_576, "1048576")
+    with_option(command, alloc, "events", 1, MOST_EVENTS, "1048576")
 }
 
 fn with_lanes<'a>(command: Command<'a>, alloc: Global) -> Result<Command<'a>, AllocError>
     ensures { IfOk result (λ c. app_of c ≡ spec.with_lanes (app_of command.entry)) }
 {
-    with_option(command, alloc, "lanes", 1, 16, "1")
+    with_option(command, alloc, "lanes", 1, u64::from(MOST_LANES), "1")
 }
 
 fn with_tests<'a>(command: Command<'a>, alloc: Global) -> Result<Command<'a>, AllocError>
     ensures { IfOk result (λ c. app_of c ≡ spec.with_tests (app_of command.entry)) }
 {
-    with_option(command, alloc, "tests", 1, 1_099_511_627_776, "1048576")
+    with_option(command, alloc, "tests", 1, MOST_TESTS, "1048576")
 }
 
 #[tactic(auto, unfolding(crate::specs::Commands::check_app))]
@@ -125,7 +126,7 @@ fn show<'a>(alloc: Global) -> Result<Command<'a>, AllocError>
 {
     let command = with_text(bare(alloc, "show"), alloc, "P")?;
     let command = with_text(command, alloc, "LOG")?;
-    with_number(command, alloc, "CLOCK", 0, 1_048_576)
+    with_number(command, alloc, "CLOCK", 0, MOST_EVENTS)
 }
 
 #[tactic(auto, unfolding(crate::specs::Commands::derive_app))]
@@ -152,7 +153,7 @@ fn seek<'a>(alloc: Global) -> Result<Command<'a>, AllocError>
 {
     let command = with_text(bare(alloc, "seek"), alloc, "P")?;
     let command = with_number(command, alloc, "SEED", 0, u64::MAX)?;
-    let command = with_number(command, alloc, "TRIES", 1, 65_536)?;
+    let command = with_number(command, alloc, "TRIES", 1, MOST_TRIES)?;
     let command = with_text(command, alloc, "SCHED")?;
     with_events(command, alloc)
 }
@@ -165,7 +166,7 @@ fn isolate<'a>(alloc: Global) -> Result<Command<'a>, AllocError>
     let command = with_text(command, alloc, "PASS")?;
     let command = with_text(command, alloc, "FAIL")?;
     let command = with_tests(command, alloc)?;
-    let command = with_option(command, alloc, "workers", 1, 16, "1")?;
+    let command = with_option(command, alloc, "workers", 1, u64::from(MOST_WORKERS), "1")?;
     with_events(command, alloc)
 }
 
@@ -199,7 +200,13 @@ fn tiles<'a>(alloc: Global) -> Result<Command<'a>, AllocError>
 fn drill<'a>(alloc: Global) -> Result<Command<'a>, AllocError>
     ensures { IfOk result (λ c. app_of c ≡ spec.drill_app) }
 {
-    let command = with_number(bare(alloc, "drill"), alloc, "K", 1, 60)?;
+    let command = with_number(
+        bare(alloc, "drill"),
+        alloc,
+        "K",
+        1,
+        u64::from(MOST_DRILL_WORKERS),
+    )?;
     with_text(command, alloc, "P")
 }
 

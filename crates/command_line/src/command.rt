@@ -12,7 +12,7 @@ use crate::values::{events_in, lanes_in, number_in, tests_in, text_in};
 use clap::ArgMatches;
 use clap::error::ErrorKind;
 use std::alloc::Global;
-use vm_model::NoMemory;
+use vm_model::{MOST_DRILL_WORKERS, MOST_EVENTS, MOST_TRIES, MOST_WORKERS, NoMemory};
 
 /// What the words of the command line ask for. The texts are names of files. `events` is the greatest number of events of a
 /// run, from 1 to 1,048,576; `lanes` is how many processors carry the program's threads, from 1 to 16.
@@ -120,7 +120,7 @@ fn command_with<'a>(word: Word, matches: &ArgMatches<'a>) -> Command<'a>
         Word::Show => Command::Show {
             program: text_in(matches, "P"),
             log: text_in(matches, "LOG"),
-            clock: number_in(matches, "CLOCK", 0, 1_048_576),
+            clock: number_in(matches, "CLOCK", 0, MOST_EVENTS),
         },
         Word::Derive => Command::Derive {
             program: text_in(matches, "P"),
@@ -135,7 +135,7 @@ fn command_with<'a>(word: Word, matches: &ArgMatches<'a>) -> Command<'a>
         Word::Seek => Command::Seek {
             program: text_in(matches, "P"),
             seed: number_in(matches, "SEED", 0, u64::MAX),
-            tries: number_in(matches, "TRIES", 1, 65_536),
+            tries: number_in(matches, "TRIES", 1, MOST_TRIES),
             schedule: text_in(matches, "SCHED"),
             events: events_in(matches),
         },
@@ -144,7 +144,7 @@ fn command_with<'a>(word: Word, matches: &ArgMatches<'a>) -> Command<'a>
             pass: text_in(matches, "PASS"),
             fail: text_in(matches, "FAIL"),
             tests: tests_in(matches),
-            workers: number_in(matches, "workers", 1, 16),
+            workers: number_in(matches, "workers", 1, u64::from(MOST_WORKERS)),
             events: events_in(matches),
         },
         Word::Reduce => Command::Reduce {
@@ -162,7 +162,7 @@ fn command_with<'a>(word: Word, matches: &ArgMatches<'a>) -> Command<'a>
             log: text_in(matches, "LOG"),
         },
         Word::Drill => Command::Drill {
-            workers: number_in(matches, "K", 1, 60),
+            workers: number_in(matches, "K", 1, u64::from(MOST_DRILL_WORKERS)),
             program: text_in(matches, "P"),
         },
     }

@@ -5,6 +5,7 @@ ghost use Rattle.clap.specs.Words.{found_of, rows_of};
 ghost use Rattle.command_line.specs.Requests as spec;
 
 use clap::ArgMatches;
+use vm_model::{MOST_EVENTS, MOST_LANES, MOST_TESTS};
 
 /// The text of an argument.
 pub(crate) fn text_in<'a>(matches: &ArgMatches<'a>, id: &str) -> &'a str
@@ -49,25 +50,25 @@ pub(crate) fn number_in<'a>(matches: &ArgMatches<'a>, id: &str, least: u64, most
 pub(crate) fn events_in<'a>(matches: &ArgMatches<'a>) -> u64
     ensures value { result ≡ spec.events_in (rows_of (found_of matches.now)) }
     ensures low { 1 ≤ result }
-    ensures high { result ≤ 1048576 }
+    ensures high { result ≤ MOST_EVENTS }
 {
-    number_in(matches, "events", 1, 1_048_576)
+    number_in(matches, "events", 1, MOST_EVENTS)
 }
 
 /// On how many lanes a program runs.
 pub(crate) fn lanes_in<'a>(matches: &ArgMatches<'a>) -> u64
     ensures value { result ≡ spec.lanes_in (rows_of (found_of matches.now)) }
     ensures low { 1 ≤ result }
-    ensures high { result ≤ 16 }
+    ensures high { result ≤ MOST_LANES }
 {
-    number_in(matches, "lanes", 1, 16)
+    number_in(matches, "lanes", 1, u64::from(MOST_LANES))
 }
 
 /// How many tests a search may ask for.
 pub(crate) fn tests_in<'a>(matches: &ArgMatches<'a>) -> u64
     ensures value { result ≡ spec.tests_in (rows_of (found_of matches.now)) }
     ensures low { 1 ≤ result }
-    ensures high { result ≤ 1099511627776 }
+    ensures high { result ≤ MOST_TESTS }
 {
-    number_in(matches, "tests", 1, 1_099_511_627_776)
+    number_in(matches, "tests", 1, MOST_TESTS)
 }

@@ -2,10 +2,14 @@
 
 ghost use Rattle.std.specs.Prelude.{◌≡◌, ◌≤◌, ◌<◌, ◌+◌, ◌^◌, length, map, All, IfOk};
 ghost use Rattle.std.specs.List.{range_with_len};
+ghost use Rattle.vm_model.specs.declared.limits.TheConstants.{MOST_SWITCHES};
 
 use schedule_model::Schedule;
 use std::alloc::Global;
 use vm_model::NoMemory;
+
+/// The greatest number of tests that are asked for at once.
+pub const MOST_IN_BATCH: u64 = 64;
 
 /// A round of tests. Each has a number, from 0 on.
 pub trait NumberedTests {
@@ -21,7 +25,7 @@ pub trait NumberedTests {
     fn schedule(&self, alloc: Global, i: u64) -> Result<Schedule, NoMemory>
         requires { i < size self.now }
         ensures times { IfOk result (λ test. test ≡ times self.now i) }
-        ensures few { IfOk result (λ test. length test ≤ 16384) };
+        ensures few { IfOk result (λ test. length test ≤ MOST_SWITCHES) };
 }
 
 /// The schedules of so many tests, from one on. After an `Err` memory was not found.
@@ -34,7 +38,7 @@ pub fn batch<T: NumberedTests>(
     requires within { from + count ≤ T.size round.now }
     requires few { from + count < 2 ^ 64 }
     ensures tests { IfOk result (λ tests. tests.items ≡ map (T.times round.now) (range_with_len from count)) }
-    ensures sizes { IfOk result (λ tests. All (λ test. length test ≤ 16384) tests.items) }
+    ensures sizes { IfOk result (λ tests. All (λ test. length test ≤ MOST_SWITCHES) tests.items) }
 {
     let end = from + count;
     let mut tests = Vec::new(alloc);

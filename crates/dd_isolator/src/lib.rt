@@ -9,7 +9,7 @@ mod search;
 mod shifts;
 mod state;
 
-pub use batches::{NumberedTests, batch};
+pub use batches::{MOST_IN_BATCH, NumberedTests, batch};
 pub use fault::IsolateFault;
 pub use search::isolate;
 

@@ -5,7 +5,7 @@ ghost use Rattle.schedule_model.specs.Outcomes.{unresolved_among};
 ghost use Rattle.dd_isolator.specs.Rounds.{follower, made, round_of, round_size};
 ghost use Rattle.dd_isolator.specs.Answers.{Counts, Decides, HasSpent, IsFirstOf, IsSpent};
 
-use crate::batches::batch;
+use crate::batches::{MOST_IN_BATCH, batch};
 use crate::fault::IsolateFault;
 use crate::state::SearchState;
 use schedule_model::{Found, Outcome, Rounds};
@@ -28,7 +28,7 @@ fn ask<R: Rounds>(
     rounds: &mut R,
 ) -> Result<Option<Decision>, NoMemory>
     requires within { from + count ≤ round_size state.now }
-    requires few { count ≤ 64 }
+    requires few { count ≤ MOST_IN_BATCH }
     requires size { from + count < 2 ^ 64 }
     requires room { R.asked rounds.old + count < 2 ^ 64 }
     ensures first { IfOk result (IsFirstOf (R.outcome rounds.old) state.now from count) }
@@ -46,7 +46,7 @@ fn ask<R: Rounds>(
     }
 }
 
-/// The first resolved test of a round, asked for in batches of at most 64, while the budget lasts.
+/// The first resolved test of a round, asked for in batches, while the budget lasts.
 fn first_resolved<R: Rounds>(
     alloc: Global,
     state: &SearchState,
@@ -70,7 +70,7 @@ fn first_resolved<R: Rounds>(
         if left == 0 {
             return Err(IsolateFault::TestsSpent { asked: budget });
         }
-        let count = left.min(size - done).min(64);
+        let count = left.min(size - done).min(MOST_IN_BATCH);
         match ask(alloc, state, done, count, rounds)? {
             Some(decision) => return Ok(Some(decision)),
             None => done += count,

@@ -1,6 +1,7 @@
 //! The whole search.
 
 ghost use Rattle.std.specs.Prelude.{◌≡◌, ◌≤◌, ◌<◌, ◌+◌, ◌*◌, ◌^◌, length, max, IfOk, IfErr};
+ghost use Rattle.vm_model.specs.declared.limits.TheConstants.{MOST_EVENTS, MOST_SWITCHES};
 ghost use Rattle.schedule_model.specs.declared.outcome.Outcome.TheVariants.{Fail, Pass};
 ghost use Rattle.dd_isolator.specs.declared.fault.IsolateFault.TheVariants as fault;
 ghost use Rattle.dd_isolator.specs.Shifts.{padded, units};
@@ -32,9 +33,9 @@ pub fn isolate<R: Rounds>(
     requires passes { R.outcome rounds.old pass.now ≡ Pass }
     requires fails { R.outcome rounds.old fail.now ≡ Fail }
     requires events { R.events rounds.old ≡ events }
-    requires limit { events ≤ 1048576 }
-    requires pass_size { length pass.now ≤ 16384 }
-    requires fail_size { length fail.now ≤ 16384 }
+    requires limit { events ≤ MOST_EVENTS }
+    requires pass_size { length pass.now ≤ MOST_SWITCHES }
+    requires fail_size { length fail.now ≤ MOST_SWITCHES }
     requires fresh { R.asked rounds.old ≡ 0 }
     // No unit shift narrows what is found.
     ensures isolated { IfOk result (λ r. IsOneMinimal (R.outcome rounds.old) (padded events pass.now fail.now) (padded events fail.now pass.now) r.pass r.fail) }

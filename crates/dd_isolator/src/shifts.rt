@@ -1,6 +1,7 @@
 //! Lists of times, place by place.
 
 ghost use Rattle.std.specs.Prelude.{◌≡◌, ◌≤◌, ◌<◌, ◌*◌, ◌^◌, length, IfOk, min};
+ghost use Rattle.vm_model.specs.declared.limits.TheConstants.{MOST_SWITCHES};
 ghost use Rattle.dd_isolator.specs.Shifts.{cut, distance, moved, padded_to, units, with_units};
 
 use std::alloc::Global;
@@ -30,7 +31,7 @@ fn moved(count: u64, x: u32, y: u32) -> u32
 
 /// The sum of the distances.
 pub(crate) fn units(xs: &[u32], ys: &[u32]) -> u64
-    requires few { length xs.now ≤ 16384 }
+    requires few { length xs.now ≤ MOST_SWITCHES }
     requires same { length ys.now ≡ length xs.now }
     ensures units { result ≡ units xs.now ys.now }
     ensures small { result ≤ 2 ^ 46 }

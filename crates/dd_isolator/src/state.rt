@@ -1,6 +1,7 @@
 //! A state of the search.
 
 ghost use Rattle.std.specs.Prelude.{◌≡◌, ◌≤◌, ◌<◌, ◌^◌, true, length, IfOk};
+ghost use Rattle.vm_model.specs.declared.limits.TheConstants.{MOST_SWITCHES};
 ghost use Rattle.schedule_model.specs.declared.outcome.Outcome.TheVariants.{Pass, Fail};
 ghost use Rattle.schedule_model.specs.Outcomes.{is_resolved};
 ghost use Rattle.dd_isolator.specs.Rounds.{IsState, State, added, after, refined, round_size, state, taken, test, units_of};
@@ -37,11 +38,11 @@ impl SearchState {
     /// The state of two schedules, with no more parts than there are units.
     pub(crate) fn new(passing: Vec<u32>, failing: Vec<u32>, parts: u64) -> SearchState
         requires same { length failing.items ≡ length passing.items }
-        requires few { length passing.items ≤ 16384 }
+        requires few { length passing.items ≤ MOST_SWITCHES }
         requires two { 2 ≤ parts }
         ensures state { result ≡ state passing.items failing.items parts }
         ensures fine { IsState result }
-        ensures few { length result.passing ≤ 16384 }
+        ensures few { length result.passing ≤ MOST_SWITCHES }
     {
         let total = units(&passing, &failing);
         SearchState {
@@ -81,7 +82,7 @@ impl SearchState {
         requires { i < self.now.parts }
         ensures times { IfOk result (λ times. times.items ≡ (added self.now i).times) }
         ensures same { IfOk result (λ times. length times.items ≡ length self.now.passing) }
-        ensures few { IfOk result (λ times. length times.items ≤ 16384) }
+        ensures few { IfOk result (λ times. length times.items ≤ MOST_SWITCHES) }
     {
         let total = self.units();
         let low = cut(total, self.parts, i);
@@ -95,7 +96,7 @@ impl SearchState {
         requires { i < self.now.parts }
         ensures times { IfOk result (λ times. times.items ≡ (taken self.now i).times) }
         ensures same { IfOk result (λ times. length times.items ≡ length self.now.passing) }
-        ensures few { IfOk result (λ times. length times.items ≤ 16384) }
+        ensures few { IfOk result (λ times. length times.items ≤ MOST_SWITCHES) }
     {
         let total = self.units();
         let low = cut(total, self.parts, i);
@@ -109,7 +110,7 @@ impl SearchState {
         requires { i < round_size self.now }
         ensures times { IfOk result (λ times. times.items ≡ (test self.now i).times) }
         ensures same { IfOk result (λ times. length times.items ≡ length self.now.passing) }
-        ensures few { IfOk result (λ times. length times.items ≤ 16384) }
+        ensures few { IfOk result (λ times. length times.items ≤ MOST_SWITCHES) }
     {
         let parts = self.parts();
         if i < parts {
@@ -121,7 +122,7 @@ impl SearchState {
 
     pub(crate) fn passing(&self) -> &[u32]
         ensures value { result.now ≡ self.now.passing }
-        ensures few { length self.now.passing ≤ 16384 }
+        ensures few { length self.now.passing ≤ MOST_SWITCHES }
     {
         &self.passing
     }
@@ -129,7 +130,7 @@ impl SearchState {
     pub(crate) fn failing(&self) -> &[u32]
         ensures value { result.now ≡ self.now.failing }
         ensures same { length self.now.failing ≡ length self.now.passing }
-        ensures few { length self.now.passing ≤ 16384 }
+        ensures few { length self.now.passing ≤ MOST_SWITCHES }
     {
         &self.failing
     }

@@ -1,7 +1,7 @@
 //! The drill: a program with a known number of events is stored, recorded and replayed.
 
 ghost use Rattle.std.specs.Prelude.{◌≡◌, ◌≤◌, ◌++◌, None, IfOk, IfErr, codes};
-ghost use Rattle.vm_model.specs.declared.limits.TheConstants.{MOST_EVENTS};
+ghost use Rattle.vm_model.specs.declared.limits.TheConstants.{MOST_DRILL_WORKERS, MOST_EVENTS};
 ghost use Rattle.machine_model.specs.Machine.{end_of, start_machine};
 ghost use Rattle.schedule_log.specs.Spelling.{Spells};
 ghost use Rattle.thread_driver.specs.Recordings.{IsRecording};
@@ -100,7 +100,7 @@ pub fn drill_file<F: Folder>(
     folder: &mut F,
 ) -> Result<Vec<u8>, Halt>
     requires some { 1 ≤ workers }
-    requires few { workers ≤ 60 }
+    requires few { workers ≤ MOST_DRILL_WORKERS }
     ensures drills { IfOk result (λ text. Drills (folder_call F.is_told F.file F.load_faults F.store_faults folder.old folder.new) workers program.now text.items) }
     ensures halts { IfErr result (Halts (Drill workers program.now) (folder_call F.is_told F.file F.load_faults F.store_faults folder.old folder.new)) }
     ensures counts { CountsLoads (F.load_faults folder.old) (F.load_faults folder.new) result }

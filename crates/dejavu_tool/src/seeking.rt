@@ -2,7 +2,7 @@
 
 ghost use Rattle.std.specs.Prelude.{◌≡◌, ◌≤◌, ◌++◌, None, IfOk, IfErr, codes, length};
 ghost use Rattle.report_writer.specs.Texts as texts;
-ghost use Rattle.vm_model.specs.declared.limits.TheConstants.{MOST_EVENTS};
+ghost use Rattle.vm_model.specs.declared.limits.TheConstants.{MOST_EVENTS, MOST_TRIES};
 ghost use Rattle.machine_model.specs.Machine.{end_of, start_machine};
 ghost use Rattle.switch_schedule.specs.Searches.{IsFirstFault};
 ghost use Rattle.command_line.specs.Requests.{Seek};
@@ -68,7 +68,7 @@ fn told(
 fn sought(alloc: Global, plain: &Plain, seed: u64, tries: u64, events: u64) -> Result<Found, Halt>
     requires some { 1 ≤ events }
     requires limit { events ≤ MOST_EVENTS }
-    requires few { tries ≤ 65536 }
+    requires few { tries ≤ MOST_TRIES }
     requires begins { end_of plain.now (start_machine plain.now) MOST_EVENTS ≡ None }
     ensures sought { IfOk result (λ found. TellsSought plain.now seed tries events found.bytes.items found.text.items) }
     ensures halts { IfErr result (HaltsBy (SeekStops plain.now seed tries events)) }
@@ -93,7 +93,7 @@ pub fn seek_file<F: Folder>(
 ) -> Result<Vec<u8>, Halt>
     requires some { 1 ≤ events }
     requires limit { events ≤ MOST_EVENTS }
-    requires few { tries ≤ 65536 }
+    requires few { tries ≤ MOST_TRIES }
     ensures seeks { IfOk result (λ text. Seeks (folder_call F.is_told F.file F.load_faults F.store_faults folder.old folder.new) program.now seed tries schedule.now events text.items) }
     ensures halts { IfErr result (Halts (Seek program.now seed tries schedule.now events) (folder_call F.is_told F.file F.load_faults F.store_faults folder.old folder.new)) }
     ensures counts { CountsLoads (F.load_faults folder.old) (F.load_faults folder.new) result }

@@ -1,6 +1,7 @@
 //! The text of the drill.
 
 ghost use Rattle.std.specs.Prelude.{◌≡◌, ◌≤◌, ◌++◌, List, ℕ, OnOk, IfOk};
+ghost use Rattle.vm_model.specs.declared.limits.TheConstants.{MOST_DRILL_WORKERS};
 ghost use Rattle.drill_program.specs.Texts as spec;
 
 use report_writer::{put, put_number};
@@ -100,7 +101,7 @@ fn put_end(out: &mut Vec<u8>) -> Result<(), NoMemory>
 }
 
 fn put_all_made(out: &mut Vec<u8>, workers: u32) -> Result<(), NoMemory>
-    requires { workers ≤ 60 }
+    requires { workers ≤ MOST_DRILL_WORKERS }
     ensures { OnOk result (out.new.items ≡ out.old.items ++ spec.of_workers spec.made_text workers) }
 {
     for i in 0..workers {
@@ -110,7 +111,7 @@ fn put_all_made(out: &mut Vec<u8>, workers: u32) -> Result<(), NoMemory>
 }
 
 fn put_all_started(out: &mut Vec<u8>, workers: u32) -> Result<(), NoMemory>
-    requires { workers ≤ 60 }
+    requires { workers ≤ MOST_DRILL_WORKERS }
     ensures { OnOk result (out.new.items ≡ out.old.items ++ spec.of_workers spec.started_text workers) }
 {
     for i in 0..workers {
@@ -120,7 +121,7 @@ fn put_all_started(out: &mut Vec<u8>, workers: u32) -> Result<(), NoMemory>
 }
 
 fn put_all_joined(out: &mut Vec<u8>, workers: u32) -> Result<(), NoMemory>
-    requires { workers ≤ 60 }
+    requires { workers ≤ MOST_DRILL_WORKERS }
     ensures { OnOk result (out.new.items ≡ out.old.items ++ spec.of_workers spec.joined_text workers) }
 {
     for i in 0..workers {
@@ -141,7 +142,7 @@ fn put_head(out: &mut Vec<u8>) -> Result<(), NoMemory>
 
 #[tactic(auto, unfolding(crate::specs::Texts::body_text))]
 fn put_body(out: &mut Vec<u8>, workers: u32) -> Result<(), NoMemory>
-    requires { workers ≤ 60 }
+    requires { workers ≤ MOST_DRILL_WORKERS }
     ensures { OnOk result (out.new.items ≡ out.old.items ++ spec.body_text workers) }
 {
     put_all_made(out, workers)?;
@@ -151,7 +152,7 @@ fn put_body(out: &mut Vec<u8>, workers: u32) -> Result<(), NoMemory>
 
 #[tactic(auto, unfolding(crate::specs::Texts::drill_text))]
 fn put_whole(out: &mut Vec<u8>, workers: u32) -> Result<(), NoMemory>
-    requires { workers ≤ 60 }
+    requires { workers ≤ MOST_DRILL_WORKERS }
     ensures { OnOk result (out.new.items ≡ out.old.items ++ spec.drill_text workers) }
 {
     put_head(out)?;
@@ -164,7 +165,7 @@ fn put_whole(out: &mut Vec<u8>, workers: u32) -> Result<(), NoMemory>
 /// Every run of it that is done has 4,004 events a worker and 3 more, and prints 1,000 times the number of workers.
 pub fn drill_text(alloc: Global, workers: u32) -> Result<Vec<u8>, NoMemory>
     requires some { 1 ≤ workers }
-    requires few { workers ≤ 60 }
+    requires few { workers ≤ MOST_DRILL_WORKERS }
     ensures { IfOk result (λ text. text.items ≡ spec.drill_text workers) }
 {
     let mut out = Vec::new(alloc);

@@ -1,6 +1,7 @@
 -- Rounds of tests over runs of a program.
 use Rattle.std.specs.Prelude.{◌≡◌, ◌≤◌, ◌<◌, ◌+◌, ◌^◌, ℕ, None, List, Result, IfOk}
 use Rattle.std.proofs.Common.{arith}
+use Rattle.vm_model.specs.declared.limits.TheConstants.{MOST_EVENTS}
 use Rattle.vm_model.specs.declared.ends.Fault.{Fault}
 use Rattle.vm_model.specs.declared.memory.NoMemory.{NoMemory}
 use Rattle.schedule_model.specs.declared.outcome.Outcome.{Outcome}
@@ -18,7 +19,7 @@ pub record RoundsState : Type 0 where
 -- runs can be made, and the counts are numbers of 64 bits
 pub record AreRounds (s : RoundsState) : Type 0 where
   pub some : 1 ≤ s.events
-  pub limit : s.events ≤ 1048576
+  pub limit : s.events ≤ MOST_EVENTS
   pub begins : end_of s.program (start_machine s.program) s.events ≡ None
   pub counts : s.resolved + s.unresolved < 2 ^ 64
 

@@ -1,6 +1,7 @@
 //! What a run shows against a fault.
 
 ghost use Rattle.std.specs.Prelude.{◌≡◌, ◌≤◌, None, Some, length, IfOk};
+ghost use Rattle.vm_model.specs.declared.limits.TheConstants.{MOST_EVENTS, MOST_SWITCHES};
 ghost use Rattle.machine_model.specs.Machine.{end_of, start_machine};
 ghost use Rattle.schedule_model.specs.Outcomes.{is_same_fault, kind_number, outcome_of, outcome_of_end};
 
@@ -64,9 +65,9 @@ pub(crate) fn outcome_of(
     events: u64,
     schedule: &Schedule,
 ) -> Result<Outcome, NoMemory>
-    requires few { length schedule.now ≤ 16384 }
+    requires few { length schedule.now ≤ MOST_SWITCHES }
     requires some { 1 ≤ events }
-    requires limit { events ≤ 1048576 }
+    requires limit { events ≤ MOST_EVENTS }
     requires begins { end_of plain.now (start_machine plain.now) events ≡ None }
     ensures { IfOk result (λ o. outcome_of plain.now events fault.now schedule.now ≡ o) }
 {

@@ -10,10 +10,10 @@ use std::marker::Model;
 use vm_model::NoMemory;
 
 /// The greatest number of tests that are remembered.
-const MOST_TESTS: usize = 4096;
+const MOST_KEPT_TESTS: usize = 4_096;
 
 /// The greatest number of times that they have in all.
-const MOST_TIMES: usize = 4194304;
+const MOST_KEPT_TIMES: usize = 4_194_304;
 
 /// What tests showed, by their times in order.
 #[derive(Drop)]
@@ -54,11 +54,11 @@ impl Memo {
     pub(crate) fn remember(&mut self, sorted: Vec<u32>, shown: Outcome) -> Result<(), NoMemory>
         requires { shown_of sorted.items self.old ≡ None }
         ensures adds { MayAdd sorted.items shown self.old self.new }
-        ensures few { length self.new ≤ 4096 }
-        ensures small { times_in self.new ≤ 4194304 }
+        ensures few { length self.new ≤ MOST_KEPT_TESTS }
+        ensures small { times_in self.new ≤ MOST_KEPT_TIMES }
     {
         let size = sorted.len();
-        if self.outcomes.len() < MOST_TESTS && size <= MOST_TIMES - self.times {
+        if self.outcomes.len() < MOST_KEPT_TESTS && size <= MOST_KEPT_TIMES - self.times {
             self.outcomes.insert(sorted, shown)?;
             self.times += size;
         }

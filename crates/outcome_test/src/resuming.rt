@@ -2,6 +2,7 @@
 
 ghost use Rattle.std.specs.Prelude.{◌≡◌, ◌≤◌, ◌<◌, ℕ, IsTrue, Some, [], length, drop, IfOk, IfSome, OnOk};
 ghost use Rattle.std.specs.List.{HoldsAt};
+ghost use Rattle.vm_model.specs.declared.limits.TheConstants.{MOST_EVENTS, MOST_SWITCHES};
 ghost use Rattle.machine_model.specs.Machine.{run};
 ghost use Rattle.machine_model.specs.Ring.{schedule_threads};
 ghost use Rattle.schedule_model.specs.Outcomes.{end_under};
@@ -91,10 +92,10 @@ fn begun(
     times: Vec<u32>,
     events: u64,
 ) -> Result<Paused, NoMemory>
-    requires few { length times.items ≤ 16384 }
+    requires few { length times.items ≤ MOST_SWITCHES }
     requires rising { Rises 0 times.items }
     requires some { 1 ≤ events }
-    requires limit { events ≤ 1048576 }
+    requires limit { events ≤ MOST_EVENTS }
     requires under { AreUnder plain.now events paused.now }
     requires within { IfSome from (λ i. i < length paused.now) }
     requires agrees { IfSome from (HoldsAt (λ r. Agree (clock_of r) r.times times.items) paused.now) }
@@ -178,10 +179,10 @@ impl Resumed {
         times: Vec<u32>,
         events: u64,
     ) -> Result<End, NoMemory>
-        requires few { length times.items ≤ 16384 }
+        requires few { length times.items ≤ MOST_SWITCHES }
         requires rising { Rises 0 times.items }
         requires some { 1 ≤ events }
-        requires limit { events ≤ 1048576 }
+        requires limit { events ≤ MOST_EVENTS }
         requires under { AreUnder plain.now events self.old }
         ensures end { IfOk result (λ e. end_under plain.now events (run plain.now (schedule_threads plain.now times.items events)) ≡ Some e) }
         ensures under { AreUnder plain.now events self.new }

@@ -3,6 +3,7 @@
 ghost use Rattle.outcome_test.specs.Memos.{Remembers};
 ghost use Rattle.outcome_test.specs.Resumed.{AreUnder};
 ghost use Rattle.std.specs.Prelude.{◌≡◌, ◌≤◌, ◌<◌, ◌+◌, ◌^◌, None, length, All, IfOk};
+ghost use Rattle.vm_model.specs.declared.limits.TheConstants.{MOST_EVENTS, MOST_SWITCHES};
 ghost use Rattle.vm_model.specs.declared.ends.Fault.{Fault};
 ghost use Rattle.machine_model.specs.Machine.{end_of, start_machine};
 ghost use Rattle.schedule_model.specs.Finds.{IsFirstResolved};
@@ -54,7 +55,7 @@ impl<'a> SerialRounds<'a> {
         events: u64,
     ) -> Result<SerialRounds<'a>, NoMemory>
         requires some { 1 ≤ events }
-        requires limit { events ≤ 1048576 }
+        requires limit { events ≤ MOST_EVENTS }
         requires begins { end_of plain.now (start_machine plain.now) events ≡ None }
         ensures { IfOk result (λ rounds. rounds ≡ record { program = plain.now; fault = fault; events = events; resolved = 0; unresolved = 0 }) }
     {
@@ -86,9 +87,9 @@ fn shown(
     runs: &mut Resumed,
     test: &Schedule,
 ) -> Result<Outcome, NoMemory>
-    requires few { length test.now ≤ 16384 }
+    requires few { length test.now ≤ MOST_SWITCHES }
     requires some { 1 ≤ events }
-    requires limit { events ≤ 1048576 }
+    requires limit { events ≤ MOST_EVENTS }
     requires begins { end_of plain.now (start_machine plain.now) events ≡ None }
     requires remembers { Remembers (outcome_of plain.now events fault.now) memo.old }
     requires under { AreUnder plain.now events runs.old }
@@ -118,9 +119,9 @@ fn first_of(
     tests: &[Schedule],
 ) -> Result<Found, NoMemory>
     requires few { length tests.now < 2 ^ 32 }
-    requires sizes { All (λ test. length test ≤ 16384) tests.now }
+    requires sizes { All (λ test. length test ≤ MOST_SWITCHES) tests.now }
     requires some { 1 ≤ events }
-    requires limit { events ≤ 1048576 }
+    requires limit { events ≤ MOST_EVENTS }
     requires begins { end_of plain.now (start_machine plain.now) events ≡ None }
     requires remembers { Remembers (outcome_of plain.now events fault.now) memo.old }
     requires under { AreUnder plain.now events runs.old }

@@ -2,6 +2,7 @@
 
 ghost use Rattle.std.specs.Prelude.{◌≡◌, ◌≤◌, ◌<◌, ◌+◌, ◌^◌, None, length, All, IfOk};
 ghost use Rattle.std.specs.List.{AllZip, HoldsAt};
+ghost use Rattle.vm_model.specs.declared.limits.TheConstants.{MOST_EVENTS, MOST_SWITCHES};
 ghost use Rattle.machine_model.specs.Machine.{end_of, start_machine};
 ghost use Rattle.schedule_model.specs.Finds.{IsFirstResolved};
 ghost use Rattle.schedule_model.specs.Outcomes.{outcome_of};
@@ -23,9 +24,9 @@ fn outcomes<H: Threads + Sync>(
     events: u64,
     tests: &[Schedule],
 ) -> Result<Vec<Result<Outcome, NoMemory>>, NoMemory>
-    requires sizes { All (λ test. length test ≤ 16384) tests.now }
+    requires sizes { All (λ test. length test ≤ MOST_SWITCHES) tests.now }
     requires some { 1 ≤ events }
-    requires limit { events ≤ 1048576 }
+    requires limit { events ≤ MOST_EVENTS }
     requires begins { end_of plain.now (start_machine plain.now) events ≡ None }
     ensures { IfOk result (λ shown. AllZip (Shows (outcome_of plain.now events fault.now)) tests.now shown.items) }
 {
@@ -35,7 +36,7 @@ fn outcomes<H: Threads + Sync>(
             .with_min_len(1)
             .map(
                 |test: &Schedule| -> Result<Outcome, NoMemory>
-                    requires { (length test.now ≤ 16384) × (1 ≤ events) × (events ≤ 1048576) × (end_of plain.now (start_machine plain.now) events ≡ None) }
+                    requires { (length test.now ≤ MOST_SWITCHES) × (1 ≤ events) × (events ≤ MOST_EVENTS) × (end_of plain.now (start_machine plain.now) events ≡ None) }
                     ensures { Shows (outcome_of plain.entry.now events fault.entry.now) test.now result }
                 { outcome_of(alloc, plain, fault, events, test) },
             )
@@ -100,9 +101,9 @@ fn group<H: Threads + Sync>(
     tests: &[Schedule],
 ) -> Result<Found, NoMemory>
     requires few { length tests.now < 2 ^ 32 }
-    requires sizes { All (λ test. length test ≤ 16384) tests.now }
+    requires sizes { All (λ test. length test ≤ MOST_SWITCHES) tests.now }
     requires some { 1 ≤ events }
-    requires limit { events ≤ 1048576 }
+    requires limit { events ≤ MOST_EVENTS }
     requires begins { end_of plain.now (start_machine plain.now) events ≡ None }
     ensures { IfOk result (IsFirstResolved (outcome_of plain.now events fault.now) tests.now) }
 {
@@ -121,9 +122,9 @@ pub(crate) fn first_of<H: Threads + Sync>(
     tests: &[Schedule],
 ) -> Result<Found, NoMemory>
     requires few { length tests.now < 2 ^ 32 }
-    requires sizes { All (λ test. length test ≤ 16384) tests.now }
+    requires sizes { All (λ test. length test ≤ MOST_SWITCHES) tests.now }
     requires some { 1 ≤ events }
-    requires limit { events ≤ 1048576 }
+    requires limit { events ≤ MOST_EVENTS }
     requires begins { end_of plain.now (start_machine plain.now) events ≡ None }
     requires some_worker { 1 ≤ workers }
     ensures { IfOk result (IsFirstResolved (outcome_of plain.now events fault.now) tests.now) }

@@ -1,6 +1,7 @@
 //! Rounds of tests on several threads.
 
 ghost use Rattle.std.specs.Prelude.{◌≡◌, ◌≤◌, ◌<◌, ◌+◌, ◌^◌, None, length, IfOk};
+ghost use Rattle.vm_model.specs.declared.limits.TheConstants.{MOST_EVENTS};
 ghost use Rattle.machine_model.specs.Machine.{end_of, start_machine};
 ghost use Rattle.schedule_model.specs.Outcomes.{outcome_of};
 ghost use Rattle.switch_schedule.proofs.Alike.{reads_counts};
@@ -64,7 +65,7 @@ impl<'a, H: Threads + Sync> WideRounds<'a, H> {
         workers: u32,
     ) -> Result<WideRounds<'a, H>, NoMemory>
         requires some { 1 ≤ events }
-        requires limit { events ≤ 1048576 }
+        requires limit { events ≤ MOST_EVENTS }
         requires begins { end_of plain.now (start_machine plain.now) events ≡ None }
         ensures { IfOk result (λ rounds. rounds ≡ record { program = plain.now; fault = fault; events = events; resolved = 0; unresolved = 0 }) }
     {

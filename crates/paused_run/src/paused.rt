@@ -1,7 +1,7 @@
 //! A run of a schedule that can pause.
 
 ghost use Rattle.std.specs.Prelude.{◌≡◌, ◌≤◌, ◌<◌, ◌+◌, ◌↔◌, ℕ, IsTrue, IsSome, Some, None, true, false, length, min, max, MatchOption, IfOk, OnOk, OnErr};
-ghost use Rattle.vm_model.specs.declared.limits.TheConstants.{MOST_EVENTS};
+ghost use Rattle.vm_model.specs.declared.limits.TheConstants.{MOST_EVENTS, MOST_SWITCHES};
 ghost use Rattle.vm_model.specs.Program.{PlainProgram};
 ghost use Rattle.machine_model.specs.Machine.{end_of, is_enabled, run, turn};
 ghost use Rattle.machine_model.specs.Ring.{schedule_threads};
@@ -65,7 +65,7 @@ impl Paused {
         times: Vec<u32>,
         events: u64,
     ) -> Result<Paused, NoMemory>
-        requires few { length times.items ≤ 16384 }
+        requires few { length times.items ≤ MOST_SWITCHES }
         requires rising { Rises 0 times.items }
         requires some { 1 ≤ events }
         requires limit { events ≤ MOST_EVENTS }
@@ -129,7 +129,7 @@ impl Paused {
     /// The run of another schedule after as many events, where both agree below their number. Its times are in rising order.
     pub fn copy_for(&self, alloc: Global, times: Vec<u32>) -> Result<Paused, NoMemory>
         requires whole { self.now.machine.is_broken ≡ false }
-        requires few { length times.items ≤ 16384 }
+        requires few { length times.items ≤ MOST_SWITCHES }
         requires rising { Rises 0 times.items }
         requires agree { Agree (clock_of self.now) self.now.times times.items }
         ensures copied { IfOk result (λ r. r ≡ record { machine = self.now.machine; thread = self.now.thread; times = times.items }) }

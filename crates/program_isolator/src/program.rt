@@ -1,6 +1,7 @@
 //! Isolation between two schedules of one program.
 
 ghost use Rattle.std.specs.Prelude.{◌≡◌, ◌≤◌, None, length, IfOk, IfErr};
+ghost use Rattle.vm_model.specs.declared.limits.TheConstants.{MOST_EVENTS, MOST_SWITCHES};
 ghost use Rattle.vm_model.specs.declared.ends.End.TheVariants as end;
 ghost use Rattle.machine_model.specs.Machine.{end_of, start_machine};
 ghost use Rattle.schedule_model.specs.Outcomes.{outcome_of};
@@ -23,9 +24,9 @@ pub fn end_of_run(
     schedule: &Schedule,
     events: u64,
 ) -> Result<End, NoMemory>
-    requires few { length schedule.now ≤ 16384 }
+    requires few { length schedule.now ≤ MOST_SWITCHES }
     requires some { 1 ≤ events }
-    requires limit { events ≤ 1048576 }
+    requires limit { events ≤ MOST_EVENTS }
     requires begins { end_of plain.now (start_machine plain.now) events ≡ None }
     ensures { IfOk result (EndsSo plain.now events schedule.now) }
 {
@@ -44,9 +45,9 @@ fn isolate_with<R: Rounds>(
     budget: u64,
     rounds: &mut R,
 ) -> Result<Isolated, IsolateFault>
-    requires pass_size { length pass.now ≤ 16384 }
-    requires fail_size { length fail.now ≤ 16384 }
-    requires limit { events ≤ 1048576 }
+    requires pass_size { length pass.now ≤ MOST_SWITCHES }
+    requires fail_size { length fail.now ≤ MOST_SWITCHES }
+    requires limit { events ≤ MOST_EVENTS }
     requires passes { EndsSo _plain.now events pass.now end.Done }
     requires fails { EndsSo _plain.now events fail.now (end.Fault _fault) }
     requires outcome { R.outcome rounds.old ≡ outcome_of _plain.now events _fault }
@@ -70,10 +71,10 @@ fn isolate_serially(
     events: u64,
     budget: u64,
 ) -> Result<Isolated, IsolateFault>
-    requires pass_size { length pass.now ≤ 16384 }
-    requires fail_size { length fail.now ≤ 16384 }
+    requires pass_size { length pass.now ≤ MOST_SWITCHES }
+    requires fail_size { length fail.now ≤ MOST_SWITCHES }
     requires some { 1 ≤ events }
-    requires limit { events ≤ 1048576 }
+    requires limit { events ≤ MOST_EVENTS }
     requires begins { end_of plain.now (start_machine plain.now) events ≡ None }
     requires passes { EndsSo plain.now events pass.now end.Done }
     requires fails { EndsSo plain.now events fail.now (end.Fault fault) }
@@ -98,10 +99,10 @@ fn isolate_widely<H: Threads + Sync>(
     budget: u64,
     workers: u32,
 ) -> Result<Isolated, IsolateFault>
-    requires pass_size { length pass.now ≤ 16384 }
-    requires fail_size { length fail.now ≤ 16384 }
+    requires pass_size { length pass.now ≤ MOST_SWITCHES }
+    requires fail_size { length fail.now ≤ MOST_SWITCHES }
     requires some { 1 ≤ events }
-    requires limit { events ≤ 1048576 }
+    requires limit { events ≤ MOST_EVENTS }
     requires begins { end_of plain.now (start_machine plain.now) events ≡ None }
     requires passes { EndsSo plain.now events pass.now end.Done }
     requires fails { EndsSo plain.now events fail.now (end.Fault fault) }
@@ -126,10 +127,10 @@ fn isolate_fault<H: Threads + Sync>(
     budget: u64,
     workers: u32,
 ) -> Result<Isolated, IsolateFault>
-    requires pass_size { length pass.now ≤ 16384 }
-    requires fail_size { length fail.now ≤ 16384 }
+    requires pass_size { length pass.now ≤ MOST_SWITCHES }
+    requires fail_size { length fail.now ≤ MOST_SWITCHES }
     requires some { 1 ≤ events }
-    requires limit { events ≤ 1048576 }
+    requires limit { events ≤ MOST_EVENTS }
     requires begins { end_of plain.now (start_machine plain.now) events ≡ None }
     requires passes { EndsSo plain.now events pass.now end.Done }
     requires fails { EndsSo plain.now events fail.now (end.Fault fault) }
@@ -160,10 +161,10 @@ pub fn isolate_program<H: Threads + Sync>(
     budget: u64,
     workers: u32,
 ) -> Result<Isolated, IsolationRefusal>
-    requires pass_size { length pass.now ≤ 16384 }
-    requires fail_size { length fail.now ≤ 16384 }
+    requires pass_size { length pass.now ≤ MOST_SWITCHES }
+    requires fail_size { length fail.now ≤ MOST_SWITCHES }
     requires some { 1 ≤ events }
-    requires limit { events ≤ 1048576 }
+    requires limit { events ≤ MOST_EVENTS }
     requires begins { end_of plain.now (start_machine plain.now) events ≡ None }
     ensures isolation { IfOk result (IsIsolation plain.now events pass.now fail.now budget) }
     ensures same_size { IfOk result (λ found. length found.fail ≡ length found.pass) }

@@ -1,6 +1,7 @@
 //! Reduction of a schedule of one program.
 
 ghost use Rattle.std.specs.Prelude.{◌≡◌, ◌≤◌, None, length, All, IfOk, IfErr};
+ghost use Rattle.vm_model.specs.declared.limits.TheConstants.{MOST_EVENTS, MOST_SWITCHES};
 ghost use Rattle.vm_model.specs.declared.ends.End.TheVariants as end;
 ghost use Rattle.machine_model.specs.Machine.{end_of, start_machine};
 ghost use Rattle.schedule_model.specs.Outcomes.{outcome_of};
@@ -29,13 +30,13 @@ fn reduce_with<R: Rounds>(
     budget: u64,
     rounds: &mut R,
 ) -> Result<Reduced, ReduceFault>
-    requires size { length fail.now ≤ 16384 }
+    requires size { length fail.now ≤ MOST_SWITCHES }
     requires fails { EndsSo _plain.now _events fail.now (end.Fault _fault) }
     requires outcome { R.outcome rounds.old ≡ outcome_of _plain.now _events _fault }
     requires fresh { R.asked rounds.old ≡ 0 }
     ensures left { IfOk result (IsLeftOf _plain.now _events fail.now _fault) }
     ensures within { IfOk result (λ r. tests_on _plain.now _events _fault fail.now ≤ budget) }
-    ensures few { IfOk result (λ r. length r.schedule ≤ 16384) }
+    ensures few { IfOk result (λ r. length r.schedule ≤ MOST_SWITCHES) }
     ensures spent { IfErr result (IsSpent budget (tests_on _plain.now _events _fault fail.now)) }
 {
     same_faults_are_equal();
@@ -51,14 +52,14 @@ fn reduce_serially(
     events: u64,
     budget: u64,
 ) -> Result<Reduced, ReduceFault>
-    requires size { length fail.now ≤ 16384 }
+    requires size { length fail.now ≤ MOST_SWITCHES }
     requires some { 1 ≤ events }
-    requires limit { events ≤ 1048576 }
+    requires limit { events ≤ MOST_EVENTS }
     requires begins { end_of plain.now (start_machine plain.now) events ≡ None }
     requires fails { EndsSo plain.now events fail.now (end.Fault fault) }
     ensures left { IfOk result (IsLeftOf plain.now events fail.now fault) }
     ensures within { IfOk result (λ r. tests_on plain.now events fault fail.now ≤ budget) }
-    ensures few { IfOk result (λ r. length r.schedule ≤ 16384) }
+    ensures few { IfOk result (λ r. length r.schedule ≤ MOST_SWITCHES) }
     ensures spent { IfErr result (IsSpent budget (tests_on plain.now events fault fail.now)) }
 {
     let mut rounds = SerialRounds::new(alloc, plain, fault, events)?;
@@ -76,14 +77,14 @@ fn reduce_widely<H: Threads + Sync>(
     budget: u64,
     workers: u32,
 ) -> Result<Reduced, ReduceFault>
-    requires size { length fail.now ≤ 16384 }
+    requires size { length fail.now ≤ MOST_SWITCHES }
     requires some { 1 ≤ events }
-    requires limit { events ≤ 1048576 }
+    requires limit { events ≤ MOST_EVENTS }
     requires begins { end_of plain.now (start_machine plain.now) events ≡ None }
     requires fails { EndsSo plain.now events fail.now (end.Fault fault) }
     ensures left { IfOk result (IsLeftOf plain.now events fail.now fault) }
     ensures within { IfOk result (λ r. tests_on plain.now events fault fail.now ≤ budget) }
-    ensures few { IfOk result (λ r. length r.schedule ≤ 16384) }
+    ensures few { IfOk result (λ r. length r.schedule ≤ MOST_SWITCHES) }
     ensures spent { IfErr result (IsSpent budget (tests_on plain.now events fault fail.now)) }
 {
     let mut rounds = WideRounds::new(rt, alloc, plain, fault, events, workers)?;
@@ -101,14 +102,14 @@ fn reduce_fault<H: Threads + Sync>(
     budget: u64,
     workers: u32,
 ) -> Result<Reduced, ReduceFault>
-    requires size { length fail.now ≤ 16384 }
+    requires size { length fail.now ≤ MOST_SWITCHES }
     requires some { 1 ≤ events }
-    requires limit { events ≤ 1048576 }
+    requires limit { events ≤ MOST_EVENTS }
     requires begins { end_of plain.now (start_machine plain.now) events ≡ None }
     requires fails { EndsSo plain.now events fail.now (end.Fault fault) }
     ensures left { IfOk result (IsLeftOf plain.now events fail.now fault) }
     ensures within { IfOk result (λ r. tests_on plain.now events fault fail.now ≤ budget) }
-    ensures few { IfOk result (λ r. length r.schedule ≤ 16384) }
+    ensures few { IfOk result (λ r. length r.schedule ≤ MOST_SWITCHES) }
     ensures spent { IfErr result (IsSpent budget (tests_on plain.now events fault fail.now)) }
 {
     if 1 < workers {
@@ -132,15 +133,15 @@ pub fn reduce_program<H: Threads + Sync>(
     budget: u64,
     workers: u32,
 ) -> Result<Reduced, ReductionRefusal>
-    requires size { length fail.now ≤ 16384 }
+    requires size { length fail.now ≤ MOST_SWITCHES }
     requires some { 1 ≤ events }
-    requires limit { events ≤ 1048576 }
+    requires limit { events ≤ MOST_EVENTS }
     requires begins { end_of plain.now (start_machine plain.now) events ≡ None }
     ensures reduction { IfOk result (IsReduction plain.now events fail.now budget) }
-    ensures few { IfOk result (λ found. length found.schedule ≤ 16384) }
+    ensures few { IfOk result (λ found. length found.schedule ≤ MOST_SWITCHES) }
     // What is left can be stored for as many events as the given times.
     ensures times { AreTimes events fail.now → IfOk result (λ found. AreTimes events found.schedule) }
-    ensures small { AreTimes events fail.now → IfOk result (λ found. All (λ time. time ≤ 1048576) found.schedule) }
+    ensures small { AreTimes events fail.now → IfOk result (λ found. All (λ time. time ≤ MOST_EVENTS) found.schedule) }
     ensures refuses { IfErr result (Refuses plain.now events fail.now budget) }
 {
     match end_of_run(alloc, plain, fail, events)? {

@@ -1,6 +1,7 @@
 -- The last accesses of a place, by thread.
 use Rattle.std.specs.Prelude.{◌≡◌, ◌≢◌, ℕ, ◌+◌, ◌<◌, ◌≤◌, ◌↔◌, ◌⊎◌, Bool, true, false, List, Option, Some, None, slice_get, Contains}
 use Rattle.std.specs.HashMap.{HashMap, get}
+use Rattle.vm_model.specs.declared.limits.TheConstants.{MOST_THREADS}
 use Rattle.vm_model.specs.declared.op.Entry.{Entry}
 use Rattle.race_report.specs.declared.place.Place.{Place}
 use Rattle.race_report.specs.contracts.place.PlacePartialEq.TheImpl as place_eq
@@ -51,7 +52,7 @@ accesses_or_none None = record { accesses = nothing; writes = nothing; reported 
 -- the greatest of the last times of other threads that a clock doesn't know, or 0
 pub record IsLatestUnknown (last clock : Times) (thread latest : ℕ) : Type 0 where
   pub found : (latest ≡ 0) ⊎ ((t : ℕ) × (t ≢ thread) × (time clock t < time last t) × (time last t ≡ latest))
-  pub greatest : (t : ℕ) → t < 64 → t ≢ thread → time clock t < time last t → time last t ≤ latest
+  pub greatest : (t : ℕ) → t < MOST_THREADS → t ≢ thread → time clock t < time last t → time last t ≤ latest
 
 module _ {S : Type 0} where
   abbrev pub accesses_of : HashMap Place Accesses S → Place → Accesses

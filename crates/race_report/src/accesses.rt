@@ -6,7 +6,7 @@ ghost use Rattle.race_report.specs.Accesses.{accesses_of as accesses_by, IsLates
 use crate::place::Place;
 use crate::vector_clock::VectorClock;
 use std::collections::HashMap;
-use vm_model::Op;
+use vm_model::{MOST_THREADS, Op};
 
 /// The last accesses of a place: for each thread one more than the position of its last access, and of its last write.
 #[derive(Clone, Copy, Debug)]
@@ -82,7 +82,7 @@ fn later_unknown(
     other: u32,
     latest: u32,
 ) -> u32
-    requires other { other < 64 }
+    requires other { other < MOST_THREADS }
     ensures keeps { latest ≤ result }
     ensures found { (result ≡ latest) ⊎ ((other ≢ thread) × (time clock.now other < time last.now other) × (time last.now other ≡ result)) }
     ensures greatest { other ≢ thread → time clock.now other < time last.now other → time last.now other ≤ result }
@@ -100,7 +100,7 @@ pub fn latest_unknown(last: &VectorClock, clock: &VectorClock, thread: u32) -> u
     ensures latest { IsLatestUnknown last.now clock.now thread result }
 {
     let mut latest = 0;
-    for other in 0..64u32 {
+    for other in 0..MOST_THREADS {
         latest = later_unknown(last, clock, thread, other, latest);
     }
     latest
@@ -117,7 +117,7 @@ impl Accesses {
 
 /// A thread's time is one more than a position, where this counts.
 fn marked_if(last: VectorClock, thread: u32, position: u32, counts: bool) -> VectorClock
-    requires thread { thread < 64 }
+    requires thread { thread < MOST_THREADS }
     requires position { position + 1 < 2 ^ 32 }
     ensures marked { IsMarked last thread position counts result }
 {
@@ -130,7 +130,7 @@ fn marked_if(last: VectorClock, thread: u32, position: u32, counts: bool) -> Vec
 
 /// The last accesses after one more at a position.
 pub fn marked(last: Accesses, thread: u32, position: u32, write: bool, reported: bool) -> Accesses
-    requires thread { thread < 64 }
+    requires thread { thread < MOST_THREADS }
     requires position { position + 1 < 2 ^ 32 }
     ensures accesses { IsMarked last.accesses thread position true result.accesses }
     ensures writes { IsMarked last.writes thread position write result.writes }

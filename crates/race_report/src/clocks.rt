@@ -116,7 +116,7 @@ fn join_named(clocks: &HashMap<ClockOwner, VectorClock>, op: Op, clock: VectorCl
 
 /// The clock of an entry: its own position, and what it takes.
 fn clock_at(clocks: &HashMap<ClockOwner, VectorClock>, entry: Entry, position: u32) -> VectorClock
-    requires thread { entry.thread < 64 }
+    requires thread { entry.thread < MOST_THREADS }
     requires position { position + 1 < 2 ^ 32 }
     requires within { (c : ClockOwnerOf) (t : ℕ) → time (clock_by clocks.now c) t ≤ position }
     ensures clock { IsTaken (clock_by clocks.now) entry position result }

@@ -1,5 +1,6 @@
 -- What a call of the gate answers, and what the seat has seen after it.
 use Rattle.std.specs.Prelude.{◌≡◌, ◌⊎◌, Contains, ℕ, ◌==◌, Bool, true, false, if◌then◌else◌, List, [], ◌∷◌, ◌++◌, None, Option, Some, is_none, slice_get, ◌&&◌, ◌<◌, length, take}
+use Rattle.vm_model.specs.declared.limits.TheConstants.{MOST_EVENTS}
 use mathlib.Core.List.{IsPrefix}
 use Rattle.vm_model.specs.declared.op.Entry.{Entry}
 use Rattle.vm_model.specs.declared.op.Op.{Op}
@@ -119,7 +120,7 @@ TargetSo history thread begun.Over = target_in history thread ≡ None
 
 -- a clock is below the greatest budget
 abbrev pub IsWithinLimit : Turning → Type 0
-IsWithinLimit (turning.Committed clock reply) = clock < 1048576
+IsWithinLimit (turning.Committed clock reply) = clock < MOST_EVENTS
 IsWithinLimit (turning.NotYet clock) = Unit {0}
 IsWithinLimit (turning.Differs clock) = Unit {0}
 IsWithinLimit turning.NoMemory = Unit {0}

@@ -1,5 +1,6 @@
 //! The gate and its seats.
 ghost use Rattle.std.specs.Prelude.{◌≡◌, ◌≤◌, ◌<◌, ℕ, false, [], ◌++◌, length, Contains, IfOk};
+ghost use Rattle.vm_model.specs.declared.limits.TheConstants.{MOST_EVENTS};
 ghost use mathlib.Core.List.{IsPrefix};
 ghost use Rattle.replay_gate.specs.Answers.{Turned, BegunSo, IsWithinLimit, SameLanes, TargetSo, added, HasAllLanes, Closes, FitsSo, ClassSo};
 ghost use Rattle.gate_core.specs.Histories.{entries_of_lane};
@@ -210,7 +211,7 @@ impl ReplayGate {
 fn budget_of(log: &Log) -> u64
     ensures value { result ≡ log.now.budget }
     ensures low { 1 ≤ result }
-    ensures high { result ≤ 1048576 }
+    ensures high { result ≤ MOST_EVENTS }
 {
     let _ = log.intervals();
     log.budget()

@@ -2,6 +2,7 @@
 use Rattle.std.specs.Prelude.{ℕ, ◌+◌, Bool, ◌||◌, nat_lt, if◌then◌else◌, List, [], ◌++◌, length, Option, Some, None, is_some, slice_get, option_map, codes, decimal}
 use Rattle.std.specs.Fmt.{signed_decimal}
 use Rattle.std.specs.List.{flat_map, range_with_len}
+use Rattle.vm_model.specs.declared.limits.TheConstants.{FIRST_USER_CLASS}
 use Rattle.vm_model.specs.declared.value.Value.{Value}
 use Rattle.vm_model.specs.declared.value.Value.TheVariants as value
 use Rattle.vm_model.specs.declared.value.Lock.{Lock}
@@ -85,9 +86,8 @@ thread_lines s count = flat_map (thread_line s) (range_with_len 0 count)
 abbrev pub object_lock_lines : PlainProgram → SharedState → ℕ → List ℕ
 object_lock_lines p s count = flat_map (λ id. lock_line p s (lock.Object id)) (range_with_len 0 count)
 
--- user classes are numbered from 32
 abbrev pub class_lock_lines : PlainProgram → SharedState → ℕ → List ℕ
-class_lock_lines p s count = flat_map (λ i. lock_line p s (lock.Class (32 + i))) (range_with_len 0 count)
+class_lock_lines p s count = flat_map (λ i. lock_line p s (lock.Class (FIRST_USER_CLASS + i))) (range_with_len 0 count)
 
 -- The clock of the next event; each static with what it holds; each thread that was started; each lock that is owned or waited
 -- on, those of objects and arrays first; how many objects and arrays there are and how many words they take; how many bytes

@@ -14,7 +14,7 @@ use event_machine::Machine;
 use machine_model::RowState;
 use shared_world::{LockState, World};
 use std::alloc::Global;
-use vm_model::{Lock, NoMemory, Program, Value};
+use vm_model::{FIRST_USER_CLASS, Lock, NoMemory, Program, Value};
 
 /// Adds a number with its sign, in decimal.
 fn put_signed(out: &mut Vec<u8>, alloc: Global, n: i32) -> Result<(), NoMemory>
@@ -201,11 +201,11 @@ fn put_class_locks(
     world: &World,
     count: u32,
 ) -> Result<(), NoMemory>
-    requires { 32 + count < 2 ^ 32 }
+    requires { FIRST_USER_CLASS + count < 2 ^ 32 }
     ensures { OnOk result (out.new.items ≡ out.old.items ++ spec.class_lock_lines program.now world.now.shared count) }
 {
     for i in 0..count {
-        put_lock(out, program, world, Lock::Class(32 + i))?;
+        put_lock(out, program, world, Lock::Class(FIRST_USER_CLASS + i))?;
     }
     Ok(())
 }
@@ -214,7 +214,7 @@ fn put_class_locks(
 /// on, and the sizes of the heap (in objects and arrays, and in words) and of the output (in bytes).
 pub fn state_text(alloc: Global, machine: &Machine, program: &Program) -> Result<Vec<u8>, NoMemory>
     requires statics { length program.now.statics < 2 ^ 32 }
-    requires classes { 32 + length program.now.classes < 2 ^ 32 }
+    requires classes { FIRST_USER_CLASS + length program.now.classes < 2 ^ 32 }
     ensures { IfOk result (λ text. text.items ≡ spec.state_text program.now (machine_of machine.now)) }
 {
     let world = machine.world();

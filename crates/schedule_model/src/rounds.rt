@@ -1,6 +1,7 @@
 //! Tests of schedules, several at a time.
 
 ghost use Rattle.std.specs.Prelude.{◌≡◌, ◌<◌, ◌≤◌, ◌+◌, ◌^◌, ℕ, List, length, take, All, IfOk, OnErr};
+ghost use Rattle.vm_model.specs.declared.limits.TheConstants.{MOST_SWITCHES};
 ghost use Rattle.schedule_model.specs.declared.outcome.Outcome.{Outcome};
 ghost use Rattle.schedule_model.specs.Outcomes.{ReadsCounts, unresolved_among};
 ghost use Rattle.schedule_model.specs.Finds.{IsFirstResolved, tests_counted};
@@ -37,7 +38,7 @@ pub trait Rounds {
     /// is resolved. After an `Err` memory was not found, and none counts.
     fn first_resolved(&mut self, alloc: Global, tests: &[Schedule]) -> Result<Found, NoMemory>
         requires few { length tests.now < 2 ^ 32 }
-        requires sizes { All (λ test. length test ≤ 16384) tests.now }
+        requires sizes { All (λ test. length test ≤ MOST_SWITCHES) tests.now }
         requires room { asked self.old + length tests.now < 2 ^ 64 }
         ensures first { IfOk result (IsFirstResolved (outcome self.old) tests.now) }
         ensures asked { IfOk result (λ found. asked self.new ≡ asked self.old + tests_counted tests.now found) }

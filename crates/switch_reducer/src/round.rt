@@ -7,7 +7,7 @@ ghost use Rattle.switch_reducer.specs.Answers.{Decides, HasSpent, IsAnswered, Is
 
 use crate::fault::ReduceFault;
 use crate::state::SearchState;
-use dd_isolator::batch;
+use dd_isolator::{MOST_IN_BATCH, batch};
 use schedule_model::{Found, Outcome, Rounds};
 use std::alloc::Global;
 use vm_model::NoMemory;
@@ -39,7 +39,7 @@ fn ask<R: Rounds>(
 ) -> Result<Answered, NoMemory>
     requires within { from + count ≤ round_size state.now }
     requires some { 0 < count }
-    requires few { count ≤ 64 }
+    requires few { count ≤ MOST_IN_BATCH }
     requires size { from + count < 2 ^ 64 }
     requires room { R.asked rounds.old + count < 2 ^ 64 }
     ensures answered { IfOk result (IsAnswered (R.outcome rounds.old) state.now from count) }
@@ -61,8 +61,8 @@ fn ask<R: Rounds>(
     }
 }
 
-/// The first failing test of a round, by its number, while the budget lasts. The tests are asked for in batches of at most
-/// 64, each from the first test on that isn't answered yet.
+/// The first failing test of a round, by its number, while the budget lasts. The tests are asked for in batches, each
+/// from the first test on that isn't answered yet.
 fn first_failing<R: Rounds>(
     alloc: Global,
     state: &SearchState,
@@ -86,7 +86,7 @@ fn first_failing<R: Rounds>(
         if left == 0 {
             return Err(ReduceFault::TestsSpent { asked: budget });
         }
-        let count = left.min((size - done) as u64).min(64) as usize;
+        let count = left.min((size - done) as u64).min(MOST_IN_BATCH) as usize;
         let answered = ask(alloc, state, done, count, rounds)?;
         done += answered.count;
         if answered.fails {

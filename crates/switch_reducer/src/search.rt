@@ -1,6 +1,7 @@
 //! The whole work on a schedule.
 
 ghost use Rattle.std.specs.Prelude.{◌≡◌, ◌≤◌, ◌<◌, ◌+◌, ◌*◌, [], ◌∷◌, length, IfOk, IfErr, OnOk};
+ghost use Rattle.vm_model.specs.declared.limits.TheConstants.{MOST_SWITCHES};
 ghost use Rattle.schedule_model.specs.declared.outcome.Outcome.TheVariants.{Fail};
 ghost use Rattle.schedule_model.specs.Outcomes.{unresolved_among};
 ghost use Rattle.switch_reducer.specs.declared.fault.ReduceFault.TheVariants as fault;
@@ -68,7 +69,7 @@ fn search_from<R: Rounds>(
     budget: u64,
     rounds: &mut R,
 ) -> Result<Schedule, ReduceFault>
-    requires few { length times.items ≤ 16384 }
+    requires few { length times.items ≤ MOST_SWITCHES }
     requires room { R.asked rounds.old ≤ budget }
     ensures last { IfOk result (λ last. last ≡ (last_from (R.outcome rounds.old) (start times.items)).times) }
     ensures asked { OnOk result (R.asked rounds.new ≡ R.asked rounds.old + length (tests_from (R.outcome rounds.old) (start times.items))) }
@@ -93,7 +94,7 @@ fn reduce_in_order<R: Rounds>(
     budget: u64,
     rounds: &mut R,
 ) -> Result<Schedule, ReduceFault>
-    requires few { length times.items ≤ 16384 }
+    requires few { length times.items ≤ MOST_SWITCHES }
     requires room { R.asked rounds.old ≤ budget }
     ensures last { IfOk result (λ last. last ≡ reduced_in_order (R.outcome rounds.old) times.items) }
     ensures asked { OnOk result (R.asked rounds.new ≡ R.asked rounds.old + length (tests_in_order (R.outcome rounds.old) times.items)) }
@@ -127,7 +128,7 @@ pub fn reduce<R: Rounds>(
     rounds: &mut R,
 ) -> Result<Reduced, ReduceFault>
     requires fails { R.outcome rounds.old fail.now ≡ Fail }
-    requires size { length fail.now ≤ 16384 }
+    requires size { length fail.now ≤ MOST_SWITCHES }
     requires fresh { R.asked rounds.old ≡ 0 }
     // No single time can be left out of what is found.
     ensures reduced { IfOk result (λ r. IsReduced (R.outcome rounds.old) fail.now r.schedule) }

@@ -1,6 +1,7 @@
 //! A state of the search.
 
 ghost use Rattle.std.specs.Prelude.{◌≡◌, ◌≤◌, ◌<◌, ◌^◌, true, length, IfOk};
+ghost use Rattle.vm_model.specs.declared.limits.TheConstants.{MOST_SWITCHES};
 ghost use Rattle.dd_isolator.specs.Shifts.{cut};
 ghost use Rattle.switch_reducer.specs.Rounds.{IsState, State, complement, part, refined, round_size, state, test};
 
@@ -12,7 +13,7 @@ use vm_model::NoMemory;
 
 /// Where part `i` of so many begins.
 fn cut(size: usize, parts: usize, i: usize) -> usize
-    requires few { size ≤ 16384 }
+    requires few { size ≤ MOST_SWITCHES }
     requires some { 0 < parts }
     requires most { parts ≤ size }
     requires within { i ≤ parts }
@@ -44,11 +45,11 @@ impl Model for SearchState {
 impl SearchState {
     /// The state of a schedule, with no more parts than there are times.
     pub(crate) fn new(times: Vec<u32>, parts: usize) -> SearchState
-        requires few { length times.items ≤ 16384 }
+        requires few { length times.items ≤ MOST_SWITCHES }
         requires two { 2 ≤ parts }
         ensures state { result ≡ state times.items parts }
         ensures fine { IsState result }
-        ensures few { length result.times ≤ 16384 }
+        ensures few { length result.times ≤ MOST_SWITCHES }
     {
         let size = times.len();
         SearchState {
@@ -76,7 +77,7 @@ impl SearchState {
 
     fn parts(&self) -> usize
         ensures parts { result ≡ self.now.parts }
-        ensures few { result ≤ 16384 }
+        ensures few { result ≤ MOST_SWITCHES }
     {
         self.parts
     }
@@ -85,7 +86,7 @@ impl SearchState {
     fn part(&self, alloc: Global, i: usize) -> Result<Vec<u32>, NoMemory>
         requires { i < self.now.parts }
         ensures times { IfOk result (λ times. times.items ≡ part self.now i) }
-        ensures few { IfOk result (λ times. length times.items ≤ 16384) }
+        ensures few { IfOk result (λ times. length times.items ≤ MOST_SWITCHES) }
     {
         let size = self.times.len();
         let low = cut(size, self.parts, i);
@@ -97,7 +98,7 @@ impl SearchState {
     fn complement(&self, alloc: Global, i: usize) -> Result<Vec<u32>, NoMemory>
         requires { i < self.now.parts }
         ensures times { IfOk result (λ times. times.items ≡ complement self.now i) }
-        ensures few { IfOk result (λ times. length times.items ≤ 16384) }
+        ensures few { IfOk result (λ times. length times.items ≤ MOST_SWITCHES) }
     {
         let size = self.times.len();
         let low = cut(size, self.parts, i);
@@ -123,7 +124,7 @@ impl SearchState {
     /// Its schedule.
     pub(crate) fn into_schedule(self) -> Schedule
         ensures times { result ≡ self.times }
-        ensures few { length result ≤ 16384 }
+        ensures few { length result ≤ MOST_SWITCHES }
     {
         Schedule { times: self.times }
     }

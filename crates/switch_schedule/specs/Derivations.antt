@@ -1,6 +1,7 @@
 -- The schedule whose run is a log's.
 use Rattle.std.specs.Prelude.{◌≡◌, ◌≢◌, ◌<◌, ◌≤◌, ℕ, List, ◌∷◌, length, take, All, Option, Some, None, option_map, slice_get, slice_index}
 use Rattle.std.specs.List.Sorted.{IsNonDecreasing}
+use Rattle.vm_model.specs.declared.limits.TheConstants.{MOST_SWITCHES}
 use Rattle.vm_model.specs.Ends.{kind_of_end}
 use Rattle.vm_model.specs.Program.{PlainProgram}
 use Rattle.machine_model.specs.Machine.{MachineState, end_of, run}
@@ -38,12 +39,12 @@ pub record EndsAsTold (p : PlainProgram) (log : PlainLog) : Type 0 where
 pub record NeedsTooMany (p : PlainProgram) (log : PlainLog) (clock : ℕ) : Type 0 where
   pub times : List ℕ
   pub derived : IsDerived p log times
-  pub passed : slice_get times 16384 ≡ Some clock
+  pub passed : slice_get times MOST_SWITCHES ≡ Some clock
 
 -- the times that are kept: all of them, or, where there are too many, the clock of the 16,385th is told
 abbrev pub Keeps : List ℕ → Option ℕ → List ℕ → Type 0
-Keeps kept None times = (kept ≡ times) × (length times ≤ 16384)
-Keeps kept (Some clock) times = slice_get times 16384 ≡ Some clock
+Keeps kept None times = (kept ≡ times) × (length times ≤ MOST_SWITCHES)
+Keeps kept (Some clock) times = slice_get times MOST_SWITCHES ≡ Some clock
 
 -- what is kept of the times up to a clock
 pub record HasDerived (p : PlainProgram) (threads : List ℕ) (clock : ℕ) (kept : List ℕ) (passed : Option ℕ) : Type 0 where

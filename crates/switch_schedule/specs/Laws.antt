@@ -2,6 +2,7 @@
 use Rattle.std.specs.Prelude.{◌≡◌, ◌≢◌, ◌≤◌, ℕ, true, false, List, [], ◌++◌, length}
 use Rattle.switch_schedule.specs.declared.fault.ScheduleKind.{ScheduleKind}
 use Rattle.switch_schedule.specs.declared.fault.ScheduleKind.TheVariants as kind
+use Rattle.vm_model.specs.declared.limits.TheConstants.{MOST_THREADS}
 use Rattle.vm_model.specs.Program.{PlainProgram}
 use Rattle.machine_model.specs.Machine.{MachineState, is_enabled}
 use Rattle.switch_schedule.specs.Derivations.{IsLeastPlaces}
@@ -29,4 +30,4 @@ CutIsTrailing = (events : ℕ) (times rest : List ℕ) → AreTimes events times
 
 -- from each thread a thread that can go on is reached round the ring, and there is a least number of places
 abbrev pub EnabledIsReached : Type 0
-EnabledIsReached = (p : PlainProgram) (m : MachineState) (before thread : ℕ) → length m.world.rows ≤ 64 → is_enabled p m thread ≡ true → (places : ℕ) × (places ≤ 128) × IsLeastPlaces p m before thread places
+EnabledIsReached = (p : PlainProgram) (m : MachineState) (before thread : ℕ) → length m.world.rows ≤ MOST_THREADS → is_enabled p m thread ≡ true → (places : ℕ) × (places ≤ 128) × IsLeastPlaces p m before thread places

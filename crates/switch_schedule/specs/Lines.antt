@@ -1,6 +1,7 @@
 -- A line of a schedule file, and its number digit by digit.
 use Rattle.std.specs.Prelude.{◌≡◌, ◌<◌, ◌≤◌, ◌+◌, ◌*◌, ◌-◌, ℕ, if◌then◌else◌, nat_le, List, [], ◌∷◌, ◌++◌, Option, Some, None}
 use Rattle.std.specs.Char.{is_ascii_digit}
+use Rattle.vm_model.specs.declared.limits.TheConstants.{MOST_SWITCHES}
 use Rattle.switch_schedule.specs.Texts.{time_line}
 
 -- the number that digits spell after n, where it has at most 7 digits
@@ -16,4 +17,4 @@ pub record IsLine (time events lines : ℕ) (after bytes : List ℕ) : Type 0 wh
   pub parted : bytes ≡ time_line time ++ after
   pub short : time ≤ 9999999
   pub within : time ≤ events
-  pub few : lines < 16384
+  pub few : lines < MOST_SWITCHES

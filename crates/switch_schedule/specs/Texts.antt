@@ -1,6 +1,7 @@
 -- Schedule files: a line for each time.
 use Rattle.std.specs.Prelude.{◌≡◌, ◌≢◌, ◌<◌, ◌≤◌, ◌==◌, ℕ, Bool, true, false, List, [], ◌∷◌, ◌++◌, length, decimal, All}
 use Rattle.std.specs.List.{flat_map, list_any}
+use Rattle.vm_model.specs.declared.limits.TheConstants.{MOST_SWITCHES}
 use Rattle.switch_schedule.specs.declared.fault.ScheduleKind.{ScheduleKind}
 use Rattle.switch_schedule.specs.declared.fault.ScheduleKind.TheVariants as kind
 use Rattle.switch_schedule.specs.declared.fault.ScheduleFault.{ScheduleFault}
@@ -21,7 +22,7 @@ schedule_text times = flat_map time_line times
 
 -- at most 16,384 times, of 1 to 7 digits each, and none above the number of events
 pub record AreTimes (events : ℕ) (times : List ℕ) : Type 0 where
-  pub few : length times ≤ 16384
+  pub few : length times ≤ MOST_SWITCHES
   pub short : All (λ time. time ≤ 9999999) times
   pub within : All (λ time. time ≤ events) times
 
@@ -47,9 +48,9 @@ IsNumber n line = (n ≤ 9999999) × (line ≡ decimal n)
 -- what is wrong with the line that begins here, after so many lines
 abbrev pub IsWrongLine : ScheduleKind → ℕ → ℕ → List ℕ → Type 0
 IsWrongLine kind.Trailing events lines rest = (rest ≢ []) × (has_line_feed rest ≡ false)
-IsWrongLine kind.TooManySwitches events lines rest = (16384 ≤ lines) × (has_line_feed rest ≡ true)
-IsWrongLine kind.BadNumber events lines rest = (lines < 16384) × ((line : List ℕ) × (after : List ℕ) × BeginsWithLine line after rest × ((n : ℕ) → ¬ IsNumber n line))
-IsWrongLine kind.PastBudget events lines rest = (lines < 16384) × ((line : List ℕ) × (after : List ℕ) × (n : ℕ) × BeginsWithLine line after rest × IsNumber n line × (events < n))
+IsWrongLine kind.TooManySwitches events lines rest = (MOST_SWITCHES ≤ lines) × (has_line_feed rest ≡ true)
+IsWrongLine kind.BadNumber events lines rest = (lines < MOST_SWITCHES) × ((line : List ℕ) × (after : List ℕ) × BeginsWithLine line after rest × ((n : ℕ) → ¬ IsNumber n line))
+IsWrongLine kind.PastBudget events lines rest = (lines < MOST_SWITCHES) × ((line : List ℕ) × (after : List ℕ) × (n : ℕ) × BeginsWithLine line after rest × IsNumber n line × (events < n))
 
 -- at this byte begins the first line that is wrong
 pub record FaultsAt (found : ScheduleKind) (offset events : ℕ) (bytes : List ℕ) : Type 0 where

@@ -1,6 +1,7 @@
 //! The schedule whose run is a log's.
 
 ghost use Rattle.std.specs.Prelude.{◌≡◌, ◌≤◌, ◌<◌, ◌+◌, ◌++◌, ◌↔◌, ℕ, true, false, Some, IsTrue, length, replicate, slice_index, take, IfOk, IfErr, OnOk};
+ghost use Rattle.vm_model.specs.declared.limits.TheConstants.{MOST_EVENTS};
 ghost use Rattle.machine_model.specs.Machine.{is_enabled, run};
 ghost use Rattle.machine_model.specs.Ring.{pick};
 ghost use Rattle.schedule_log.specs.Logs.{events, expansion, IsLawful};
@@ -12,10 +13,7 @@ use event_machine::{Machine, TurnFault};
 use schedule_log::Log;
 use schedule_model::Schedule;
 use std::alloc::Global;
-use vm_model::{NoMemory, Plain};
-
-/// The greatest number of times of a schedule.
-const MOST_SWITCHES: usize = 16384;
+use vm_model::{MOST_SWITCHES, NoMemory, Plain};
 
 /// As many places lead from each live thread to each other one, where at most 64 were started.
 const MOST_PLACES: u32 = 128;
@@ -70,7 +68,7 @@ fn before_event(threads: &[u32], clock: usize) -> u32
 
 /// Adds a clock so many times.
 fn put_places(times: &mut Vec<u32>, clock: u32, places: u32) -> Result<(), NoMemory>
-    requires few { length times.old.items + places ≤ 16384 }
+    requires few { length times.old.items + places ≤ MOST_SWITCHES }
     ensures { OnOk result (times.new.items ≡ times.old.items ++ replicate places clock) }
 {
     let count = times.len() + places as usize;
@@ -91,7 +89,7 @@ fn derive_event(
     requires whole { machine.now.is_broken ≡ false }
     requires runs { run plain.now (take clock threads.now) ≡ Some (machine_of machine.now) }
     requires within { clock < length threads.now }
-    requires limit { length threads.now ≤ 1048576 }
+    requires limit { length threads.now ≤ MOST_EVENTS }
     requires enabled { is_enabled plain.now (machine_of machine.now) (slice_index threads.now clock) ≡ true }
     requires so_far { HasDerived plain.now threads.now clock times.old.items passed }
     ensures so_far { IfOk result (λ now. HasDerived plain.now threads.now (clock + 1) times.new.items now) }
@@ -132,7 +130,7 @@ fn derived(
     requires runs { run plain.now (expansion log.now) ≡ Some (machine_of machine.now) }
     requires so_far { HasDerived plain.now (expansion log.now) (events log.now) times.items passed }
     ensures derived { IfOk result (λ s. IsDerived plain.now log.now s) }
-    ensures few { IfOk result (λ s. length s ≤ 16384) }
+    ensures few { IfOk result (λ s. length s ≤ MOST_SWITCHES) }
     ensures told { IfOk result (λ s. EndsAsTold plain.now log.now) }
     ensures refused { IfErr result (RefusesDerivation plain.now log.now) }
 {
@@ -165,7 +163,7 @@ fn refusal(fault: TurnFault, clock: u64, thread: u32) -> DeriveFault
 /// number of places that leads to the log's thread. The whole log is followed before `TooManySwitches` is answered.
 pub fn schedule_of(alloc: Global, plain: &Plain, log: &Log) -> Result<Schedule, DeriveFault>
     ensures derived { IfOk result (λ s. IsDerived plain.now log.now s) }
-    ensures few { IfOk result (λ s. length s ≤ 16384) }
+    ensures few { IfOk result (λ s. length s ≤ MOST_SWITCHES) }
     ensures told { IfOk result (λ s. EndsAsTold plain.now log.now) }
     ensures refused { IfErr result (RefusesDerivation plain.now log.now) }
 {

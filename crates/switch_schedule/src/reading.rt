@@ -7,9 +7,7 @@ ghost use Rattle.switch_schedule.specs.Lines.{IsLine, number_in};
 use crate::fault::{ScheduleFault, ScheduleKind};
 use schedule_model::Schedule;
 use std::alloc::Global;
-
-/// The greatest number of times of a schedule.
-const MOST_SWITCHES: usize = 16384;
+use vm_model::MOST_SWITCHES;
 
 /// The greatest number of 7 digits.
 const MOST_DIGITS: u32 = 9_999_999;

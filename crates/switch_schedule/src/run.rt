@@ -1,6 +1,7 @@
 //! The run of a schedule.
 
 ghost use Rattle.std.specs.Prelude.{◌≡◌, ◌≤◌, None, length, IfOk};
+ghost use Rattle.vm_model.specs.declared.limits.TheConstants.{MOST_EVENTS, MOST_SWITCHES};
 ghost use Rattle.machine_model.specs.Machine.{end_of, start_machine};
 ghost use Rattle.machine_model.specs.Ring.{schedule_threads};
 ghost use Rattle.switch_schedule.specs.Runs.{IsRunOf};
@@ -33,9 +34,9 @@ pub fn run_schedule(
     schedule: &Schedule,
     events: u64,
 ) -> Result<Ran, NoMemory>
-    requires few { length schedule.now ≤ 16384 }
+    requires few { length schedule.now ≤ MOST_SWITCHES }
     requires some { 1 ≤ events }
-    requires limit { events ≤ 1048576 }
+    requires limit { events ≤ MOST_EVENTS }
     requires begins { end_of plain.now (start_machine plain.now) events ≡ None }
     ensures run { IfOk result (λ r. IsRunOf plain.now schedule.now events r.intervals.items r.clock r.output.items r.end) }
     ensures clock { IfOk result (λ r. r.clock ≡ length (schedule_threads plain.now schedule.now events)) }

@@ -1,6 +1,7 @@
 //! A search for a schedule whose run ends in a fault.
 
 ghost use Rattle.std.specs.Prelude.{◌≡◌, ◌≤◌, ◌<◌, ◌+◌, ◌%◌, None, Some, length, IfOk, OnOk};
+ghost use Rattle.vm_model.specs.declared.limits.TheConstants.{MOST_EVENTS};
 ghost use Rattle.machine_model.specs.Machine.{end_of, start_machine};
 ghost use Rattle.switch_schedule.specs.Searches.{is_fault, try_drawn, IsSought};
 
@@ -62,7 +63,7 @@ pub fn seek(
     events: u64,
 ) -> Result<Sought, NoMemory>
     requires some { 1 ≤ events }
-    requires limit { events ≤ 1048576 }
+    requires limit { events ≤ MOST_EVENTS }
     requires begins { end_of plain.now (start_machine plain.now) events ≡ None }
     ensures { IfOk result (IsSought plain.now seed tries events) }
 {

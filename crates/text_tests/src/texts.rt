@@ -3,7 +3,7 @@ use jasmin_lines::ClassText;
 use jasmin_reader::{ReadFault, read_classes};
 use jasmin_text::tokens;
 use std::alloc::Global;
-use vm_model::NoMemory;
+use vm_model::{MOST_TEXT_BYTES, NoMemory};
 
 /// Three texts one after the other.
 pub fn joined(alloc: Global, before: &str, middle: &str, after: &str) -> Result<String, NoMemory> {
@@ -17,7 +17,7 @@ pub fn joined(alloc: Global, before: &str, middle: &str, after: &str) -> Result<
 /// What the reader says of a text that has tokens.
 pub fn classes_in(alloc: Global, text: &str) -> Result<Vec<ClassText>, ReadFault> {
     let bytes = text.as_bytes();
-    if bytes.len() > 1_048_576 {
+    if bytes.len() > MOST_TEXT_BYTES {
         return Err(ReadFault::NoMemory);
     }
     match tokens(alloc, bytes) {
@@ -28,8 +28,5 @@ pub fn classes_in(alloc: Global, text: &str) -> Result<Vec<ClassText>, ReadFault
 
 /// The classes of a text that reads well.
 pub fn classes_of(alloc: Global, text: &str) -> Result<Vec<ClassText>, NoMemory> {
-    match classes_in(alloc, text) {
-        Ok(classes) => Ok(classes),
-        Err(_) => Err(NoMemory),
-    }
+    classes_in(alloc, text).or(Err(NoMemory))
 }

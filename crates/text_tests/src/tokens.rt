@@ -2,7 +2,7 @@
 use jasmin_text::{TextFault, TextKind, Token, TokenKind, tokens};
 use std::alloc::Global;
 use std::test::Fail;
-use vm_model::NoMemory;
+use vm_model::{MOST_TEXT_BYTES, NoMemory};
 
 /// What a token is; a string shows the bytes that it stands for.
 fn kind_shown(alloc: Global, kind: &TokenKind) -> Result<String, NoMemory> {
@@ -48,7 +48,7 @@ fn fault_shown(alloc: Global, kind: TextKind, line: u32, column: u32) -> Result<
 
 /// The tokens of a text, or its fault.
 fn answer(alloc: Global, text: &[u8]) -> Result<String, NoMemory> {
-    if text.len() > 1_048_576 {
+    if text.len() > MOST_TEXT_BYTES {
         return Err(NoMemory);
     }
     match tokens(alloc, text) {

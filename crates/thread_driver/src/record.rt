@@ -1,5 +1,5 @@
 ghost use Rattle.std.specs.Prelude.{◌≡◌, ◌≤◌, ◌<◌, ◌^◌, ℕ, [], ◌++◌, ◌∷◌, length, IfOk, OnOk, IfErr, Some, None, true, false, ◌+◌};
-ghost use Rattle.vm_model.specs.declared.limits.TheConstants.{MOST_EVENTS};
+ghost use Rattle.vm_model.specs.declared.limits.TheConstants.{MOST_EVENTS, MOST_SWITCHES};
 ghost use Rattle.vm_model.specs.Program.{PlainProgram};
 ghost use Rattle.vm_model.specs.Ends.{kind_of_end};
 ghost use Rattle.machine_model.specs.Machine.{end_of, is_enabled, start_machine, threads_of, turn};
@@ -128,7 +128,7 @@ pub fn record_schedule(
     times: &[u32],
     events: u64,
 ) -> Result<Recording, NoMemory>
-    requires few { length times.now ≤ 16384 }
+    requires few { length times.now ≤ MOST_SWITCHES }
     requires some { 1 ≤ events }
     requires limit { events ≤ MOST_EVENTS }
     requires begins { end_of plain.now (start_machine plain.now) events ≡ None }

@@ -1,6 +1,7 @@
 //! The times of a schedule in order, of which each event takes its own.
 
 ghost use Rattle.std.specs.Prelude.{◌≡◌, ◌≤◌, ◌+◌, length, drop, IfOk, IsPermutation};
+ghost use Rattle.vm_model.specs.declared.limits.TheConstants.{MOST_SWITCHES};
 ghost use Rattle.machine_model.specs.Ring.{switches_at};
 ghost use Rattle.thread_driver.specs.Waiting.{Awaits, Rises};
 
@@ -20,7 +21,7 @@ pub fn in_order(alloc: Global, times: &[u32]) -> Result<Vec<u32>, NoMemory>
 
 /// How many of the times that are left are this event's. They stand first.
 pub fn places_at(waiting: &[u32], event: u64) -> u32
-    requires few { length waiting.now ≤ 16384 }
+    requires few { length waiting.now ≤ MOST_SWITCHES }
     requires rising { Rises event waiting.now }
     ensures value { result ≡ switches_at waiting.now event }
     ensures within { result ≤ length waiting.now }

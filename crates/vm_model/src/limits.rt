@@ -69,3 +69,6 @@ pub const MOST_LANES: u32 = 16;
 
 /// The greatest number of workers: threads of the tool that test schedules side by side.
 pub const MOST_WORKERS: u32 = 16;
+
+/// The greatest number of workers of a drill. They are threads of its run, and with the first one fewer than `MOST_THREADS`.
+pub const MOST_DRILL_WORKERS: u32 = 60;
