@@ -15,6 +15,7 @@ pub fn of_static(frame: &mut Frame, program: &Program, instr: Instr) -> Acted
     requires place { frame.old.place < 2 ^ 31 }
     ensures acted { result ≡ acted_of (effect program.now instr (plain frame.old)) }
     ensures room { frame.old.stack.room ≤ frame.new.stack.room }
+    ensures method { frame.new.method ≡ frame.old.method }
     ensures frame { plain frame.new ≡ after (effect program.now instr (plain frame.old)) (plain frame.old) }
 {
     match instr {
@@ -34,6 +35,7 @@ pub fn of_field(frame: &mut Frame, program: &Program, instr: Instr) -> Acted
     requires place { frame.old.place < 2 ^ 31 }
     ensures acted { result ≡ acted_of (effect program.now instr (plain frame.old)) }
     ensures room { frame.old.stack.room ≤ frame.new.stack.room }
+    ensures method { frame.new.method ≡ frame.old.method }
     ensures frame { plain frame.new ≡ after (effect program.now instr (plain frame.old)) (plain frame.old) }
 {
     match instr {
@@ -63,6 +65,7 @@ pub fn of_array(frame: &mut Frame, program: &Program, instr: Instr) -> Acted
     requires place { frame.old.place < 2 ^ 31 }
     ensures acted { result ≡ acted_of (effect program.now instr (plain frame.old)) }
     ensures room { frame.old.stack.room ≤ frame.new.stack.room }
+    ensures method { frame.new.method ≡ frame.old.method }
     ensures frame { plain frame.new ≡ after (effect program.now instr (plain frame.old)) (plain frame.old) }
 {
     match instr {
@@ -94,6 +97,7 @@ pub fn of_monitor(frame: &mut Frame, program: &Program, instr: Instr) -> Acted
     requires place { frame.old.place < 2 ^ 31 }
     ensures acted { result ≡ acted_of (effect program.now instr (plain frame.old)) }
     ensures room { frame.old.stack.room ≤ frame.new.stack.room }
+    ensures method { frame.new.method ≡ frame.old.method }
     ensures frame { plain frame.new ≡ after (effect program.now instr (plain frame.old)) (plain frame.old) }
 {
     let lock = match frame.stack.peek(0) {

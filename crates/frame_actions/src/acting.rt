@@ -20,6 +20,7 @@ pub fn act(frame: &mut Frame, program: &Program, instr: Instr) -> Acted
     requires few { length program.now.methods ≤ MOST_TEXT_BYTES }
     ensures acted { result ≡ acted_of (effect program.now instr (plain frame.old)) }
     ensures room { frame.old.stack.room ≤ frame.new.stack.room }
+    ensures method { frame.new.method ≡ frame.old.method }
     ensures frame { plain frame.new ≡ after (effect program.now instr (plain frame.old)) (plain frame.old) }
 {
     match instr {

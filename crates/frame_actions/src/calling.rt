@@ -18,6 +18,7 @@ pub fn call(frame: &mut Frame, program: &Program, instr: Instr) -> Acted
     requires few { length program.now.methods ≤ MOST_TEXT_BYTES }
     ensures acted { result ≡ acted_of (effect program.now instr (plain frame.old)) }
     ensures room { frame.old.stack.room ≤ frame.new.stack.room }
+    ensures method { frame.new.method ≡ frame.old.method }
     ensures frame { plain frame.new ≡ after (effect program.now instr (plain frame.old)) (plain frame.old) }
 {
     match instr {
@@ -40,6 +41,7 @@ pub fn give(frame: &mut Frame, program: &Program, instr: Instr) -> Acted
     requires place { frame.old.place < 2 ^ 31 }
     ensures acted { result ≡ acted_of (effect program.now instr (plain frame.old)) }
     ensures room { frame.old.stack.room ≤ frame.new.stack.room }
+    ensures method { frame.new.method ≡ frame.old.method }
     ensures frame { plain frame.new ≡ after (effect program.now instr (plain frame.old)) (plain frame.old) }
 {
     match instr {
@@ -67,6 +69,7 @@ pub fn of_thread(frame: &mut Frame, program: &Program, instr: Instr) -> Acted
     requires place { frame.old.place < 2 ^ 31 }
     ensures acted { result ≡ acted_of (effect program.now instr (plain frame.old)) }
     ensures room { frame.old.stack.room ≤ frame.new.stack.room }
+    ensures method { frame.new.method ≡ frame.old.method }
     ensures frame { plain frame.new ≡ after (effect program.now instr (plain frame.old)) (plain frame.old) }
 {
     match instr {
@@ -94,6 +97,7 @@ pub fn construct(frame: &mut Frame, program: &Program, instr: Instr) -> Acted
     requires place { frame.old.place < 2 ^ 31 }
     ensures acted { result ≡ acted_of (effect program.now instr (plain frame.old)) }
     ensures room { frame.old.stack.room ≤ frame.new.stack.room }
+    ensures method { frame.new.method ≡ frame.old.method }
     ensures frame { plain frame.new ≡ after (effect program.now instr (plain frame.old)) (plain frame.old) }
 {
     match instr {
@@ -138,6 +142,7 @@ pub fn print(frame: &mut Frame, program: &Program, instr: Instr) -> Acted
     requires place { frame.old.place < 2 ^ 31 }
     ensures acted { result ≡ acted_of (effect program.now instr (plain frame.old)) }
     ensures room { frame.old.stack.room ≤ frame.new.stack.room }
+    ensures method { frame.new.method ≡ frame.old.method }
     ensures frame { plain frame.new ≡ after (effect program.now instr (plain frame.old)) (plain frame.old) }
 {
     match instr {

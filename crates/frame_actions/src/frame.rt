@@ -50,6 +50,7 @@ impl Frame {
     pub(crate) fn take(&mut self, taken: usize)
         requires { self.old.place < 2 ^ 31 }
         ensures room { self.old.stack.room ≤ self.new.stack.room }
+        ensures method { self.new.method ≡ self.old.method }
         ensures frame { plain self.new ≡ next (plain self.old) (drop taken self.old.stack.values) }
     {
         self.stack.remove(taken);
@@ -61,6 +62,7 @@ impl Frame {
         requires place { self.old.place < 2 ^ 31 }
         requires room { length self.old.stack.values < self.old.stack.room }
         ensures room { self.old.stack.room ≤ self.new.stack.room }
+        ensures method { self.new.method ≡ self.old.method }
         ensures frame { plain self.new ≡ next (plain self.old) (value ∷ drop taken self.old.stack.values) }
     {
         self.stack.remove(taken);
@@ -73,6 +75,7 @@ impl Frame {
         requires place { self.old.place < 2 ^ 31 }
         requires room { length self.old.stack.values < self.old.stack.room }
         ensures room { self.old.stack.room ≤ self.new.stack.room }
+        ensures method { self.new.method ≡ self.old.method }
         ensures frame { plain self.new ≡ next (plain self.old) (Value.Int number ∷ drop taken self.old.stack.values) }
     {
         self.put(taken, Value::Int(number));
@@ -82,6 +85,7 @@ impl Frame {
     pub(crate) fn branch(&mut self, taken: usize, holds: bool, to: u32)
         requires { self.old.place < 2 ^ 31 }
         ensures room { self.old.stack.room ≤ self.new.stack.room }
+        ensures method { self.new.method ≡ self.old.method }
         ensures frame { plain self.new ≡ branch holds (plain self.old) to (drop taken self.old.stack.values) }
     {
         self.stack.remove(taken);
@@ -97,6 +101,7 @@ impl Frame {
         requires { self.old.place < 2 ^ 31 }
         ensures acted { goes_if result ≡ acted_of (on_local (slice_get self.old.locals.items local) (λ _. Goes (store (plain self.old) local value (drop taken self.old.stack.values)))) }
         ensures room { self.old.stack.room ≤ self.new.stack.room }
+        ensures method { self.new.method ≡ self.old.method }
         ensures frame { plain self.new ≡ after (on_local (slice_get self.old.locals.items local) (λ _. Goes (store (plain self.old) local value (drop taken self.old.stack.values)))) (plain self.old) }
     {
         let local = local as usize;
@@ -116,6 +121,7 @@ impl Frame {
         requires { self.old.place < 2 ^ 31 }
         ensures acted { goes_if result ≡ acted_of (on_local (slice_get self.old.locals.items local) (λ _. Goes (store (plain self.old) local (Value.Int number) (drop taken self.old.stack.values)))) }
         ensures room { self.old.stack.room ≤ self.new.stack.room }
+        ensures method { self.new.method ≡ self.old.method }
         ensures frame { plain self.new ≡ after (on_local (slice_get self.old.locals.items local) (λ _. Goes (store (plain self.old) local (Value.Int number) (drop taken self.old.stack.values)))) (plain self.old) }
     {
         self.store(taken, local, Value::Int(number))

@@ -16,6 +16,7 @@ pub fn jump_of_one(frame: &mut Frame, program: &Program, instr: Instr) -> Acted
     requires room { length frame.old.stack.values + 2 ≤ frame.old.stack.room }
     ensures acted { result ≡ acted_of (effect program.now instr (plain frame.old)) }
     ensures room { frame.old.stack.room ≤ frame.new.stack.room }
+    ensures method { frame.new.method ≡ frame.old.method }
     ensures frame { plain frame.new ≡ after (effect program.now instr (plain frame.old)) (plain frame.old) }
 {
     let Some(y) = frame.stack.peek_int(0) else {
@@ -40,6 +41,7 @@ pub fn jump_of_two(frame: &mut Frame, program: &Program, instr: Instr) -> Acted
     requires room { length frame.old.stack.values + 2 ≤ frame.old.stack.room }
     ensures acted { result ≡ acted_of (effect program.now instr (plain frame.old)) }
     ensures room { frame.old.stack.room ≤ frame.new.stack.room }
+    ensures method { frame.new.method ≡ frame.old.method }
     ensures frame { plain frame.new ≡ after (effect program.now instr (plain frame.old)) (plain frame.old) }
 {
     let (Some(x), Some(y)) = frame.stack.ints() else {
@@ -64,6 +66,7 @@ pub fn jump_of_references(frame: &mut Frame, program: &Program, instr: Instr) ->
     requires room { length frame.old.stack.values + 2 ≤ frame.old.stack.room }
     ensures acted { result ≡ acted_of (effect program.now instr (plain frame.old)) }
     ensures room { frame.old.stack.room ≤ frame.new.stack.room }
+    ensures method { frame.new.method ≡ frame.old.method }
     ensures frame { plain frame.new ≡ after (effect program.now instr (plain frame.old)) (plain frame.old) }
 {
     match instr {

@@ -15,6 +15,7 @@ pub fn constant(frame: &mut Frame, program: &Program, instr: Instr) -> Acted
     requires room { length frame.old.stack.values + 2 ≤ frame.old.stack.room }
     ensures acted { result ≡ acted_of (effect program.now instr (plain frame.old)) }
     ensures room { frame.old.stack.room ≤ frame.new.stack.room }
+    ensures method { frame.new.method ≡ frame.old.method }
     ensures frame { plain frame.new ≡ after (effect program.now instr (plain frame.old)) (plain frame.old) }
 {
     let value = match instr {
@@ -35,6 +36,7 @@ pub fn of_local(frame: &mut Frame, program: &Program, instr: Instr) -> Acted
     requires room { length frame.old.stack.values + 2 ≤ frame.old.stack.room }
     ensures acted { result ≡ acted_of (effect program.now instr (plain frame.old)) }
     ensures room { frame.old.stack.room ≤ frame.new.stack.room }
+    ensures method { frame.new.method ≡ frame.old.method }
     ensures frame { plain frame.new ≡ after (effect program.now instr (plain frame.old)) (plain frame.old) }
 {
     match instr {
@@ -75,6 +77,7 @@ pub fn order(frame: &mut Frame, program: &Program, instr: Instr) -> Acted
     requires room { length frame.old.stack.values + 2 ≤ frame.old.stack.room }
     ensures acted { result ≡ acted_of (effect program.now instr (plain frame.old)) }
     ensures room { frame.old.stack.room ≤ frame.new.stack.room }
+    ensures method { frame.new.method ≡ frame.old.method }
     ensures frame { plain frame.new ≡ after (effect program.now instr (plain frame.old)) (plain frame.old) }
 {
     match instr {

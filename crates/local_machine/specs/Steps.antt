@@ -1,7 +1,8 @@
 -- What the code's steps are, by the definitions.
-use Rattle.std.specs.Prelude.{◌≡◌, ◌≢◌, ◌<◌, ◌≤◌, ℕ, ◌+◌, ◌-◌, Bool, true, false, List, ◌∷◌, Option, Some, None, ◌⊎◌}
+use Rattle.std.specs.Prelude.{◌≡◌, ◌≢◌, ◌<◌, ◌≤◌, ℕ, ◌+◌, ◌-◌, Bool, true, false, List, [], ◌∷◌, Option, Some, None, ◌⊎◌}
 use Rattle.vm_model.specs.declared.limits.TheConstants.{MOST_LOCAL_STEPS}
-use Rattle.vm_model.specs.Program.{PlainProgram}
+use Rattle.vm_model.specs.declared.instr.Instr.{Instr}
+use Rattle.vm_model.specs.Program.{PlainMethod, PlainProgram}
 use Rattle.machine_model.specs.Frames.{Frame, LocalState, Running, Plain}
 use Rattle.machine_model.specs.Effect.{action}
 use Rattle.machine_model.specs.LocalStep.{moved_back, moved_in, settled_within}
@@ -10,6 +11,11 @@ use Rattle.frame_actions.specs.declared.acted.Acted.TheVariants as acted
 use Rattle.frame_actions.specs.Acts.{acted_of, after}
 use Rattle.local_machine.specs.Further.{after_steps}
 use Rattle.local_machine.specs.LocalView.{steps_within}
+
+-- the code of a method; none where there is no such method
+abbrev pub code_in : Option PlainMethod → List Instr
+code_in None = []
+code_in (Some m) = m.code
 
 -- the local step of an instruction that did this, and left the frame g on top; none where it makes none
 abbrev pub followed : PlainProgram → Acted → Frame → List Frame → Option LocalState

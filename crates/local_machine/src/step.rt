@@ -1,29 +1,49 @@
 // Steps of the thread alone.
-ghost use Rattle.std.specs.Prelude.{◌≡◌, ◌≢◌, ◌+◌, ◌<◌, ◌≤◌, ◌^◌, length, IfOk, OnOk, OnErr};
+ghost use Rattle.std.specs.Prelude.{◌≡◌, ◌≢◌, ◌+◌, ◌<◌, ◌≤◌, ◌^◌, length, IfOk, OnOk, OnErr, slice_get};
 ghost use Rattle.vm_model.specs.declared.limits.TheConstants.{MOST_TEXT_BYTES};
-ghost use Rattle.vm_model.specs.Program.{IsSmall};
+ghost use Rattle.vm_model.specs.Program.{IsSmall, method_at};
 ghost use Rattle.machine_model.specs.Frames.{Running, Plain};
 ghost use Rattle.machine_model.specs.Effect.{action};
 ghost use Rattle.machine_model.specs.LocalStep.{call_frames};
 ghost use Rattle.frame_actions.specs.Acts.{plain, HasRoom, acted_of, after};
 ghost use Rattle.local_machine.specs.Fields.{AreAtCalls, Stands, StandsUnless, callers, frames_of};
-ghost use Rattle.local_machine.specs.Steps.{IsFollowed, IsOnTheWay, IsSettled, IsTried, IsWalked, LeadsOn, followed};
+ghost use Rattle.local_machine.specs.Steps.{IsFollowed, IsOnTheWay, IsSettled, IsTried, IsWalked, LeadsOn, code_in, followed};
 
 use crate::calls::{arity_at, enter, first_frame, give_back, reserve_caller};
 use frame_actions::{Acted, Frame, act};
 use std::alloc::Global;
-use vm_model::{Lock, MOST_FRAMES, MOST_LOCAL_STEPS, NoMemory, Program};
+use vm_model::{Instr, Lock, MOST_FRAMES, MOST_LOCAL_STEPS, NoMemory, Program};
 
-/// What the instruction at the frame's place does. A step of the thread alone changes the frame; nothing else does.
-fn act_at_place(frame: &mut Frame, program: &Program) -> Acted
+/// The code of this method; none where there is no such method.
+fn code_of(program: &Program, method: u32) -> &[Instr]
+    ensures { result.now ≡ code_in (method_at program.now method) }
+{
+    match program.method(method) {
+        Some(m) => m.code.as_slice(),
+        None => &[],
+    }
+}
+
+/// The instruction at this place of the code, if there is one.
+fn instr_in(code: &[Instr], place: u32) -> Option<Instr>
+    ensures { result ≡ slice_get code.now place }
+{
+    code.get(place as usize).copied()
+}
+
+/// What the instruction at the frame's place does, in the code of its method. A step of the thread alone changes the frame;
+/// nothing else does.
+fn act_at_place(frame: &mut Frame, program: &Program, code: &[Instr]) -> Acted
     requires small { IsSmall program.now }
     requires few { length program.now.methods ≤ MOST_TEXT_BYTES }
     requires room { HasRoom frame.old }
+    requires code { code.now ≡ code_in (method_at program.now frame.old.method) }
     ensures acted { result ≡ acted_of (action program.now (plain frame.old)) }
     ensures frame { plain frame.new ≡ after (action program.now (plain frame.old)) (plain frame.old) }
     ensures stands { Stands result frame.new }
+    ensures method { frame.new.method ≡ frame.old.method }
 {
-    match program.instr_at(frame.method, frame.place) {
+    match instr_in(code, frame.place) {
         Some(instr) => act(frame, program, instr),
         None => Acted::Undefined,
     }
@@ -105,9 +125,10 @@ fn walk(frame: &mut Frame, program: &Program, steps: &mut u32) -> Result<Acted, 
     ensures more { steps.old ≤ steps.new }
     ensures steps { steps.new ≤ MOST_LOCAL_STEPS }
 {
+    let code = code_of(program, frame.method);
     while *steps < MOST_LOCAL_STEPS {
         frame.reserve()?;
-        let acted = act_at_place(frame, program);
+        let acted = act_at_place(frame, program, code);
         if !matches!(acted, Acted::Goes) {
             return Ok(acted);
         }

@@ -1,4 +1,5 @@
-use Rattle.std.proofs.Common.{◌≡◌, ◌∙◌, arith}
+use Rattle.std.proofs.Common.{◌≡◌, ◌∙◌, ap, arith}
+use Rattle.machine_model.specs.Frames.{Frame}
 use Rattle.machine_model.specs.Effect.{action}
 use Rattle.frame_actions.specs.declared.acted.Acted.TheVariants as acted
 use Rattle.frame_actions.specs.Acts.{plain}
@@ -48,6 +49,7 @@ loop-steps-preserved c =
     ] in
     record {
       few = omega arith;
+      method = acts.ensures.method ∙ ap (λ (f : Frame). f.method) c.in_ok-reserve.ensures.frame ∙ l.invariant.method;
       more = omega arith;
       way = leads-made p (plain c.args.frame.now) (plain l.frame) (plain c.reserve.new.self) (plain acts.new.frame) c.args.steps.now l.steps acts.result l.invariant.way c.loop-steps-test.true c.in_ok-reserve.ensures.frame acts.ensures.acted acts.ensures.frame goes;
       trying = trying-made p (plain c.args.frame.now) (plain l.frame) (plain c.reserve.new.self) (plain acts.new.frame) c.args.steps.now l.steps acts.result l.invariant.trying c.loop-steps-test.true c.in_ok-reserve.ensures.frame acts.ensures.acted acts.ensures.frame goes;
