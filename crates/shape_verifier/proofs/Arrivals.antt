@@ -3,10 +3,10 @@ use Rattle.std.proofs.Common.{◌≡◌, ℕ, Bool, true, false, Option, Some, N
 use Rattle.std.specs.Prelude.{if◌then◌else◌, slice_get, slice_set, Result}
 use Rattle.vm_model.specs.Program.{PlainProgram}
 use Rattle.machine_model.specs.Shapes.{Shape}
-use Rattle.shape_verifier.specs.declared.fault.ShapeKind.{ShapeKind}
+use Rattle.shape_lattice.specs.declared.fault.ShapeKind.{ShapeKind}
+use Rattle.shape_lattice.specs.Merging.{merged_shape, takes}
 use Rattle.shape_verifier.specs.declared.fault.Refusal.{Refusal}
-use Rattle.shape_verifier.specs.declared.shape.Reached.{Reached}
-use Rattle.shape_verifier.specs.Merging.{merged_shape, takes}
+use Rattle.shape_verifier.specs.declared.passing.Reached.{Reached}
 use Rattle.shape_verifier.specs.Passing.{PassState, ◌>>=◌, at_place, merged_at, merged_into, reached}
 
 pub data Arrives (p : PlainProgram) (state : PassState) (place : ℕ) (s : Shape) (next : PassState) : Type 0 where

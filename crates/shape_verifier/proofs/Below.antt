@@ -6,16 +6,16 @@ use Rattle.std.proofs.lemmas.Option.{slice_get_past}
 use Rattle.vm_model.specs.declared.instr.Instr.{Instr}
 use Rattle.vm_model.specs.Program.{PlainMethod, PlainProgram, code_at, instr_at, method_at}
 use Rattle.machine_model.specs.Shapes.{Shape, Table, Flow, Next, Jump, Branch, Leaves, Refused, Takes, TakesAt, Follows, FollowsAt, HasShapes, first_shape, flow, shape_at}
-use Rattle.shape_verifier.specs.declared.fault.ShapeKind.{ShapeKind}
-use Rattle.shape_verifier.specs.declared.fault.ShapeKind.TheVariants as fault
+use Rattle.shape_lattice.specs.declared.fault.ShapeKind.{ShapeKind}
+use Rattle.shape_lattice.specs.declared.fault.ShapeKind.TheVariants as fault
+use Rattle.shape_lattice.specs.Merging.{IsBelow, merged_shape, takes}
 use Rattle.shape_verifier.specs.declared.fault.Refusal.{Refusal}
-use Rattle.shape_verifier.specs.declared.shape.Reached.{Reached}
-use Rattle.shape_verifier.specs.Merging.{merged_shape, takes}
+use Rattle.shape_verifier.specs.declared.passing.Reached.{Reached}
 use Rattle.shape_verifier.specs.Judging.{bounded, is_past, refusal, stack_limit}
 use Rattle.shape_verifier.specs.Passing.{PassState, ◌>>=◌, at_place, begun, judged_at, least_new, looked_at, merged_at, merged_into, reached, spread, turned, turned_at}
-use Rattle.shape_verifier.specs.Kept.{IsBelow, IsBelowAt, IsBelowTable}
+use Rattle.shape_verifier.specs.Kept.{IsBelowAt, IsBelowTable}
 use Rattle.shape_laws.proofs.Tests.{at_most}
-use Rattle.shape_verifier.proofs.Least.{merged_below, same_depth}
+use Rattle.shape_lattice.proofs.Least.{merged_below, same_depth}
 use Rattle.shape_verifier.proofs.Flows.{flow_carries}
 
 -- a shape that was merged is there, and is taken by that of a table

@@ -1,5 +1,5 @@
 -- How many operands each instruction takes.
-use Rattle.std.proofs.Common.{◌≡◌, ℕ, zero, suc, ◌+◌, ◌<◌, ◌≤◌, Bool, true, false, List, [], ◌∷◌, ◌++◌, length, reverse, Option, Some, None, Ok, Err, refl, ◌∙◌, ap, subst, arith, length-append}
+use Rattle.std.proofs.Common.{◌≡◌, ℕ, suc, ◌+◌, ◌<◌, ◌≤◌, Bool, true, false, List, [], ◌∷◌, ◌++◌, length, reverse, Option, Some, None, Ok, Err, refl, ◌∙◌, ap, subst, arith, length-append}
 use Rattle.std.specs.Prelude.{◌||◌, if◌then◌else◌, nat_lt, not, slice_get, Result}
 use Rattle.std.proofs.lemmas.List.{length-reverse}
 use Rattle.vm_model.specs.declared.value.Kind.{Kind}
@@ -10,8 +10,8 @@ use Rattle.vm_model.specs.Program.{PlainMethod, PlainProgram, method_at}
 use Rattle.machine_model.specs.Declarations.{declarations_of}
 use Rattle.machine_model.specs.Kinds.{is_assignable, field_kinds, static_kind}
 use Rattle.machine_model.specs.Shapes.{Shape, Flow, Next, Jump, Branch, Leaves, Refused, flow, flow_call, flow_return, given_kind, is_array, is_called_so, is_int, is_reference, on_all, on_assignable, on_declared, on_int, on_ints, on_kind, on_place, on_set, on_such, receiver_of, where_true, with_kind, with_local, with_stack}
-use Rattle.shape_verifier.specs.declared.fault.ShapeKind.{ShapeKind}
-use Rattle.shape_verifier.specs.declared.fault.ShapeKind.TheVariants as fault
+use Rattle.shape_lattice.specs.declared.fault.ShapeKind.{ShapeKind}
+use Rattle.shape_lattice.specs.declared.fault.ShapeKind.TheVariants as fault
 use Rattle.shape_verifier.specs.Judging.{arguments_of, bounded, is_past, is_unset, judged, operands_of, refusal, refused_operand, stack_limit}
 use Rattle.shape_verifier.specs.Operands.{over}
 use Rattle.shape_laws.proofs.Tests.{below_true, true_below}

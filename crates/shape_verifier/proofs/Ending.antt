@@ -1,12 +1,12 @@
 -- Each pass ends: a turn lowers the weight of the state.
-use Rattle.std.proofs.Common.{◌≡◌, ℕ, zero, suc, ◌<◌, ◌≤◌, true, false, Option, Some, None, Ok, Err, refl, arith}
+use Rattle.std.proofs.Common.{◌≡◌, ℕ, zero, suc, ◌<◌, ◌≤◌, false, Option, Some, None, Ok, Err, refl, arith}
 use Rattle.std.specs.Prelude.{slice_set, Result}
 use Rattle.vm_model.specs.Program.{PlainMethod, PlainProgram}
 use Rattle.machine_model.specs.Shapes.{Shape}
 use Rattle.shape_verifier.specs.declared.fault.Refusal.{Refusal}
 use Rattle.shape_verifier.specs.Passing.{PassState, EndsWith, begun, least_new, reached}
 use Rattle.shape_verifier.specs.Turning.{AreWithin, EndsFrom, gone_on, refused_first}
-use Rattle.shape_verifier.proofs.Turns.{Keeps, begun_within, ends_so, gone_keeps, leads_end, leads_itself, leads_on, leads_stop, marks, refused_so, turned_none, turned_so}
+use Rattle.shape_verifier.proofs.Turns.{begun_within, ends_so, gone_keeps, leads_end, leads_itself, leads_on, leads_stop, marks, refused_so, turned_none, turned_so}
 use Rattle.shape_verifier.proofs.Weights.{weight}
 
 -- the pass ends from this state

@@ -9,8 +9,8 @@ use Rattle.vm_model.specs.Program.{PlainMethod, PlainProgram, method_at}
 use Rattle.machine_model.specs.Declarations.{declarations_of}
 use Rattle.machine_model.specs.Kinds.{static_kind, field_kinds}
 use Rattle.machine_model.specs.Shapes.{Shape, Table, Flow, Next, Jump, Branch, Refused, flow, flow_call, given_kind, is_called_so, receiver_of, is_int, is_array, is_reference, is_subsumed, on_kind, on_int, on_ints, on_such, on_assignable, on_all, where_true, with_kind, with_local, with_stack, shape_at, StackTakes, Takes, Follows}
-use Rattle.shape_verifier.proofs.Taking.{kind_itself, takes_at_passes}
-use Rattle.shape_verifier.proofs.Subsumed.{int_kept, other_kept, reference_kept, array_kept}
+use Rattle.shape_lattice.proofs.Taking.{kind_itself, takes_at_passes}
+use Rattle.shape_lattice.proofs.Subsumed.{int_kept, other_kept, reference_kept, array_kept}
 use Rattle.shape_verifier.proofs.Operands.{kinds_follow, true_follows, such_follow, int_follows, ints_follow, assignable_follows, all_follow, set_follows, place_follows, declared_follows, return_follows, empty_return_follows, stored_takes}
 
 -- where the table follows the second flow, it follows the first

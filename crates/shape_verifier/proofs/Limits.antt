@@ -6,11 +6,11 @@ use Rattle.vm_model.specs.declared.value.Kind.{Kind}
 use Rattle.vm_model.specs.declared.instr.Instr.{Instr}
 use Rattle.vm_model.specs.Program.{PlainMethod, PlainProgram, locals_of}
 use Rattle.machine_model.specs.Shapes.{Shape, Flow, Next, Jump, Branch, Leaves, Refused, IsWithinLimits, flow}
-use Rattle.shape_verifier.specs.declared.fault.ShapeKind.{ShapeKind}
-use Rattle.shape_verifier.specs.declared.fault.ShapeKind.TheVariants as fault
-use Rattle.shape_verifier.specs.declared.shape.Reached.{Reached}
+use Rattle.shape_lattice.specs.declared.fault.ShapeKind.{ShapeKind}
+use Rattle.shape_lattice.specs.declared.fault.ShapeKind.TheVariants as fault
+use Rattle.shape_lattice.specs.Merging.{merged_kind, merged_kinds, merged_locals, merged_over, merged_shape, with_top}
+use Rattle.shape_verifier.specs.declared.passing.Reached.{Reached}
 use Rattle.shape_verifier.specs.Judging.{bounded, is_past, judged, refusal, stack_limit}
-use Rattle.shape_verifier.specs.Merging.{merged_kind, merged_kinds, merged_locals, merged_over, merged_shape, with_top}
 use Rattle.shape_verifier.specs.Passing.{PassState, reached}
 use Rattle.shape_verifier.specs.Turning.{AreWithin, HasLocals, HaveLocals, HaveLocalsOf, IsWithin}
 use Rattle.shape_laws.proofs.Tests.{all_set, all_there}

@@ -4,7 +4,7 @@ use Rattle.std.specs.Prelude.{◌==◌, if◌then◌else◌, slice_get, slice_se
 use Rattle.std.proofs.lemmas.Bool.Decides.{nat_tests}
 use Rattle.vm_model.specs.Program.{PlainProgram}
 use Rattle.machine_model.specs.Shapes.{Shape}
-use Rattle.shape_verifier.specs.declared.shape.Reached.{Reached}
+use Rattle.shape_verifier.specs.declared.passing.Reached.{Reached}
 use Rattle.shape_verifier.specs.Passing.{PassState, least_new, reached}
 use Rattle.shape_verifier.specs.Turning.{NoneNewBelow, is_new_in}
 use Rattle.shape_verifier.proofs.Arrivals.{Arrives, Nowhere, First, Stays, Raised}

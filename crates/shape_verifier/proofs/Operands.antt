@@ -8,7 +8,7 @@ use Rattle.vm_model.specs.Program.{PlainProgram}
 use Rattle.machine_model.specs.Declarations.{declarations_of}
 use Rattle.machine_model.specs.Kinds.{is_assignable}
 use Rattle.machine_model.specs.Shapes.{Flow, Leaves, Refused, is_int, is_subsumed, on_kind, on_such, on_int, on_ints, on_assignable, on_all, on_set, on_place, on_declared, where_true, flow_return, StackTakes, LocalsTake}
-use Rattle.shape_verifier.proofs.Subsumed.{int_kept, assignable_kept}
+use Rattle.shape_lattice.proofs.Subsumed.{int_kept, assignable_kept}
 
 -- a test that holds of each kind that is subsumed under one of which it holds
 abbrev pub IsKept : PlainProgram → (Kind → Bool) → Type 0

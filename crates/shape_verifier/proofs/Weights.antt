@@ -4,15 +4,15 @@ use Rattle.std.specs.Prelude.{◌&&◌, if◌then◌else◌, slice_get, slice_se
 use Rattle.vm_model.specs.declared.value.Kind.{Kind}
 use Rattle.vm_model.specs.Program.{PlainMethod, PlainProgram, locals_of}
 use Rattle.machine_model.specs.Shapes.{Shape, IsWithinLimits, is_subsumed}
-use Rattle.shape_verifier.specs.declared.shape.Reached.{Reached}
+use Rattle.shape_lattice.specs.Merging.{merged_kind, merged_kinds, merged_local, merged_locals, merged_shape, takes, takes_kinds, takes_local, takes_locals, with_top}
+use Rattle.shape_verifier.specs.declared.passing.Reached.{Reached}
 use Rattle.shape_verifier.specs.Judging.{stack_limit}
-use Rattle.shape_verifier.specs.Merging.{merged_kind, merged_kinds, merged_local, merged_locals, merged_shape, takes, takes_kinds, takes_local, takes_locals, with_top}
 use Rattle.shape_verifier.specs.Passing.{PassState, reached}
 use Rattle.shape_verifier.specs.Turning.{AreWithin, IsWithin}
 use Rattle.shape_laws.proofs.Tests.{all_there}
+use Rattle.shape_lattice.proofs.Ranks.{Lowers, kind_lowers, rank, rank_least, rank_most}
 use Rattle.shape_verifier.proofs.Arrivals.{Arrives, Nowhere, First, Stays, Raised}
 use Rattle.shape_verifier.proofs.Limits.{merged_parts}
-use Rattle.shape_verifier.proofs.Ranks.{Lowers, kind_lowers, rank, rank_least, rank_most}
 
 -- ---- shapes
 

@@ -5,7 +5,7 @@ use Rattle.vm_model.specs.Program.{PlainProgram}
 use Rattle.machine_model.specs.Declarations.{declarations_of}
 use Rattle.machine_model.specs.Kinds.{is_assignable}
 use Rattle.machine_model.specs.Shapes.{Shape, Flow, Next, Jump, Branch, Leaves, Refused}
-use Rattle.shape_verifier.specs.declared.fault.ShapeKind.{ShapeKind}
+use Rattle.shape_lattice.specs.declared.fault.ShapeKind.{ShapeKind}
 use Rattle.shape_verifier.specs.declared.flow.Onward.{Onward}
 use Rattle.shape_verifier.specs.declared.flow.Onward.TheVariants as onward
 use Rattle.shape_verifier.specs.declared.step.Step.{Step}
@@ -36,11 +36,6 @@ flow_of (step.Jump to) s = Jump to s
 flow_of (step.Branch to) s = Branch to s
 flow_of step.Leaves s = Leaves
 flow_of step.Refused s = Refused
-
--- the kind of a local that is there and set
-abbrev pub set_in : Option (Option Kind) → Option Kind
-set_in None = None
-set_in (Some found) = found
 
 -- the stack below operands that may stand for these kinds, the first of which is on top; none where there aren't such
 abbrev pub kinds_taken : PlainProgram → List Kind → List Kind → Option (List Kind)

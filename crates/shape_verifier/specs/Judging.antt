@@ -6,15 +6,9 @@ use Rattle.vm_model.specs.declared.instr.Instr.{Instr}
 use Rattle.vm_model.specs.declared.instr.Instr.TheVariants as instr
 use Rattle.vm_model.specs.Program.{PlainMethod, PlainProgram, arity_of, method_at}
 use Rattle.machine_model.specs.Shapes.{Shape, Flow, Next, Jump, Branch, Leaves, Refused, flow, is_int}
-use Rattle.shape_verifier.specs.declared.fault.ShapeKind.{ShapeKind}
-use Rattle.shape_verifier.specs.declared.fault.ShapeKind.TheVariants as fault
-
-abbrev pub kind_number : ShapeKind → ℕ
-kind_number fault.Depth = 1
-kind_number fault.Kind = 2
-kind_number fault.Unset = 3
-kind_number fault.FallsOff = 4
-kind_number fault.Limit = 5
+use Rattle.shape_lattice.specs.declared.fault.ShapeKind.{ShapeKind}
+use Rattle.shape_lattice.specs.declared.fault.ShapeKind.TheVariants as fault
+use Rattle.shape_lattice.specs.Locals.{is_missing}
 
 -- ---- operands
 
@@ -103,11 +97,6 @@ operands_of p instr.Ireturn = 1
 operands_of p instr.Areturn = 1
 
 -- ---- why an instruction is refused
-
-abbrev pub is_missing : Option (Option Kind) → Bool
-is_missing None = true
-is_missing (Some None) = true
-is_missing (Some (Some k)) = false
 
 -- the instruction reads a local that isn't set, or that the method doesn't have
 abbrev pub is_unset : Instr → List (Option Kind) → Bool

@@ -1,15 +1,9 @@
 -- What the pass keeps: each shape that it has reached is taken by the one at the same place of any closed table.
-use Rattle.std.specs.Prelude.{ℕ, ◌+◌, [], ◌∷◌, Option, Some, None, Result, Ok, Err}
+use Rattle.std.specs.Prelude.{ℕ, ◌+◌, [], ◌∷◌, Option, Some, None}
 use Rattle.vm_model.specs.Program.{PlainProgram}
-use Rattle.machine_model.specs.Shapes.{Shape, Table, Takes, TakesAt, shape_at}
-use Rattle.shape_verifier.specs.declared.fault.ShapeKind.{ShapeKind}
-use Rattle.shape_verifier.specs.declared.shape.Reached.{Reached}
+use Rattle.machine_model.specs.Shapes.{Table, TakesAt, shape_at}
+use Rattle.shape_verifier.specs.declared.passing.Reached.{Reached}
 use Rattle.shape_verifier.specs.Passing.{PassState}
-
--- a merged shape is there, and this shape takes it
-abbrev pub IsBelow : PlainProgram → Result Shape ShapeKind → Shape → Type 0
-IsBelow p (Ok merged) both = Takes p merged both
-IsBelow p (Err _) both = ⊥
 
 abbrev pub IsBelowAt : PlainProgram → Table → ℕ → ℕ → Option Reached → Type 0
 IsBelowAt p table n place None = Unit {0}

@@ -4,11 +4,11 @@ use Rattle.std.specs.Prelude.{◌≡◌, ℕ, zero, suc, ◌+◌, ◌==◌, ◌<
 use Rattle.vm_model.specs.declared.instr.Instr.{Instr}
 use Rattle.vm_model.specs.Program.{PlainMethod, PlainProgram, instr_at, locals_of, method_at}
 use Rattle.machine_model.specs.Shapes.{Shape, Table, Flow, Next, Jump, Branch, Leaves, Refused, first_shape, parameters, HasShapes}
-use Rattle.shape_verifier.specs.declared.fault.ShapeKind.{ShapeKind}
-use Rattle.shape_verifier.specs.declared.fault.ShapeKind.TheVariants as fault
+use Rattle.shape_lattice.specs.declared.fault.ShapeKind.{ShapeKind}
+use Rattle.shape_lattice.specs.declared.fault.ShapeKind.TheVariants as fault
+use Rattle.shape_lattice.specs.Merging.{merged_shape, takes}
 use Rattle.shape_verifier.specs.declared.fault.Refusal.{Refusal}
-use Rattle.shape_verifier.specs.declared.shape.Reached.{Reached}
-use Rattle.shape_verifier.specs.Merging.{merged_shape, takes}
+use Rattle.shape_verifier.specs.declared.passing.Reached.{Reached}
 use Rattle.shape_verifier.specs.Judging.{judged}
 
 infixl 10 ◌>>=◌

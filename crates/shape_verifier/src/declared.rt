@@ -9,10 +9,9 @@ ghost use Rattle.machine_model.specs.Declarations.{class_at};
 ghost use Rattle.machine_model.specs.Shapes.{Next, Jump, Branch, Leaves, on_int, on_kind, on_assignable, on_all, on_declared, where_true, with_stack, with_kind, is_int, flow_call, flow_return, is_called_so, receiver_of};
 ghost use Rattle.shape_verifier.specs.Answers.{flow_of, kinds_taken, on_taken};
 
-use crate::kinds::is_assignable;
-use crate::shape::Shape;
 use crate::step::{Step, push, take, take_and_push, take_two};
 use built_in_classes::{RUNNABLE, THREAD};
+use shape_lattice::{Shape, is_assignable};
 use vm_model::{Kind, Method, NoMemory, Program};
 
 // ---- statics and fields

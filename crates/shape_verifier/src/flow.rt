@@ -11,8 +11,6 @@ use crate::declared::{
     call_on, call_static, get_field, get_static, put_field, put_static, return_int, return_nothing,
     return_reference,
 };
-use crate::fault::ShapeKind;
-use crate::shape::Shape;
 use crate::step::{
     Step, array_to_int, branch_on_int, branch_on_ints, branch_on_reference, branch_on_references,
     dup, dup_below_one, dup_below_two, dup_two, increment, int_to, join_ints, load_int, load_item,
@@ -20,6 +18,7 @@ use crate::step::{
     take, take_two, throw,
 };
 use built_in_classes::{OBJECT, PRINT_STREAM, RUNNABLE, STRING, THREAD};
+use shape_lattice::{Shape, ShapeKind};
 use std::alloc::{AllocError, AllocFailed, Global};
 use vm_model::{Instr, Kind, MOST_OPERANDS, Method, NoMemory, Program};
 

@@ -1,37 +1,15 @@
-//! Laws of merging and of the pass. Each function does nothing: its contract is the law.
-ghost use Rattle.std.specs.Prelude.{◌≡◌, ◌<◌, ◌≤◌, ◌++◌, ℕ, IsTrue, Bool, true, false, List, length, Option, Some, Result, Ok, Err};
+//! Laws of instructions and of the pass. Each function does nothing: its contract is the law.
+ghost use Rattle.std.specs.Prelude.{◌≡◌, ◌<◌, ◌≤◌, ◌++◌, ℕ, Bool, true, false, List, length, Option, Some, Result, Ok, Err};
 ghost use Rattle.vm_model.specs.Program.{PlainMethod, PlainProgram, instr_at, method_at};
 ghost use Rattle.vm_model.specs.declared.instr.Instr.{Instr};
 ghost use Rattle.vm_model.specs.declared.value.Kind.{Kind};
 ghost use Rattle.machine_model.specs.Shapes.{Shape, Table, Flow, Takes, TakesAt, Follows, HasShapes, IsVerified, flow, shape_at, with_stack};
+ghost use Rattle.shape_lattice.specs.declared.fault.ShapeKind.TheVariants.{Depth};
 ghost use Rattle.shape_verifier.specs.declared.fault.Refusal.{Refusal};
-ghost use Rattle.shape_verifier.specs.declared.fault.ShapeKind.TheVariants.{Depth};
 ghost use Rattle.shape_verifier.specs.Judging.{judged, operands_of};
 ghost use Rattle.shape_verifier.specs.Operands.{over};
-ghost use Rattle.shape_verifier.specs.Merging.{merged_shape, takes};
 ghost use Rattle.shape_verifier.specs.Passing.{PassState, EndsWith, HasTable, begun, turned};
-ghost use Rattle.shape_verifier.specs.Kept.{IsBelow, IsBelowTable};
-
-/// Merging gives the least shape that takes both: what it gives takes both, and whatever takes both takes it too.
-pub fn merging_is_least()
-    ensures takes_new { (p : PlainProgram) (new old merged : Shape) → merged_shape p new old ≡ Ok merged → length new.locals ≡ length old.locals → Takes p new merged }
-    ensures takes_old { (p : PlainProgram) (new old merged : Shape) → merged_shape p new old ≡ Ok merged → length new.locals ≡ length old.locals → Takes p old merged }
-    ensures least { (p : PlainProgram) (new old both : Shape) → Takes p new both → Takes p old both → IsBelow p (merged_shape p new old) both }
-{}
-
-/// One shape takes another where the test says so. It takes itself, and what it takes takes no more than it does.
-pub fn taking_is_an_order()
-    ensures test { (p : PlainProgram) (new old : Shape) → Takes p new old → IsTrue (takes p new old) }
-    ensures tested { (p : PlainProgram) (new old : Shape) → IsTrue (takes p new old) → Takes p new old }
-    ensures itself { (p : PlainProgram) (s : Shape) → Takes p s s }
-    ensures passes { (p : PlainProgram) (r s t : Shape) → Takes p r s → Takes p s t → Takes p r t }
-{}
-
-/// One shape takes another exactly where merging the first into the second leaves the second as it is.
-pub fn taking_is_merging_that_changes_nothing()
-    ensures taken { (p : PlainProgram) (new old : Shape) → Takes p new old → merged_shape p new old ≡ Ok old }
-    ensures unchanged { (p : PlainProgram) (new old : Shape) → length new.locals ≡ length old.locals → merged_shape p new old ≡ Ok old → Takes p new old }
-{}
+ghost use Rattle.shape_verifier.specs.Kept.{IsBelowTable};
 
 /// An instruction that finds fewer operands than it takes is refused with Depth, whatever those are that it finds, and no other
 /// one is. What is below the operands that it takes stays as it is.

@@ -5,18 +5,15 @@
 mod declared;
 mod fault;
 mod flow;
-mod kinds;
 mod laws;
-mod merging;
 mod passing;
-mod shape;
 mod step;
 mod verifying;
 
-pub use fault::{ShapeFault, ShapeKind};
+pub use fault::ShapeFault;
 pub use laws::{
-    flow_is_monotone, merging_is_least, pass_ends, pass_ends_one_way, pass_stays_below,
-    pass_that_ends_gives_table, pass_that_stops_shows_none, short_stack_is_depth, tables_verify,
-    taking_is_an_order, taking_is_merging_that_changes_nothing,
+    flow_is_monotone, pass_ends, pass_ends_one_way, pass_stays_below, pass_that_ends_gives_table,
+    pass_that_stops_shows_none, short_stack_is_depth, tables_verify,
 };
+pub use shape_lattice::ShapeKind;
 pub use verifying::{Room, Shaped, verify};

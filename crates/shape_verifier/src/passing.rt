@@ -5,17 +5,16 @@ ghost use Rattle.std.specs.Prelude.{◌≡◌, ◌+◌, ◌-◌, ◌<◌, ◌≤
 ghost use Rattle.vm_model.specs.declared.limits.TheConstants.{MOST_TEXT_BYTES};
 ghost use Rattle.vm_model.specs.Program.{method_at, locals_of as model_locals_of};
 ghost use Rattle.machine_model.specs.Shapes.{first_shape as model_first_shape, parameters as model_parameters};
+ghost use Rattle.shape_lattice.specs.Merging.{merged_shape, takes as takes_shape};
 ghost use Rattle.shape_verifier.specs.Answers.{flow_to};
-ghost use Rattle.shape_verifier.specs.Merging.{merged_shape, takes as takes_shape};
 ghost use Rattle.shape_verifier.specs.Passing.{EndsWith, PassState, begun as model_begun, merged_at, spread as model_spread};
 ghost use Rattle.shape_verifier.specs.Turning.{AreWithin, ArrivedSo, CopiedSo, HaveLocals, HaveLocalsOf, MetSo, NoneNewBelow, PassedSo, RaisedSo, RefusedSo, SettledSo, SpreadSo, TakenSo, gone_on, refused_first, receiver_local};
 ghost use Rattle.shape_verifier.specs.declared.passing.PassError.TheVariants.{Memory};
 ghost use Rattle.shape_verifier.specs.declared.passing.PassError.TheVariants as errors;
 
-use crate::fault::{Refusal, ShapeKind};
+use crate::fault::Refusal;
 use crate::flow::{JudgeError, Onward, judge};
-use crate::merging::{merge, takes};
-use crate::shape::{Reached, Shape};
+use shape_lattice::{Shape, ShapeKind, merge, takes};
 use std::alloc::{AllocError, AllocFailed, Global};
 use vm_model::{Kind, MOST_LOCALS, Method, Program};
 
@@ -48,6 +47,13 @@ impl From<Refusal> for PassError {
     fn from(refusal: Refusal) -> PassError {
         PassError::Refused(refusal)
     }
+}
+
+/// A shape that the pass has reached. It is new where the instruction has not been looked at with it.
+#[derive(Debug, Drop)]
+pub struct Reached {
+    pub shape: Shape,
+    pub is_new: bool,
 }
 
 // ---- the shape with which a method begins

@@ -8,9 +8,8 @@ ghost use Rattle.machine_model.specs.Kinds.{field_kinds, static_kind};
 ghost use Rattle.machine_model.specs.Shapes.{Next, Jump, Branch, Leaves, on_int, on_ints, on_kind, on_such, on_set, on_place, on_assignable, on_all, on_declared, where_true, with_stack, with_local, is_int, is_reference, is_array};
 ghost use Rattle.shape_verifier.specs.Answers.{flow_of, kinds_taken};
 
-use crate::kinds::is_assignable;
-use crate::shape::Shape;
 use built_in_classes::{PRINT_STREAM, THROWABLE};
+use shape_lattice::{Shape, is_assignable};
 use vm_model::{Kind, NoMemory, Program};
 
 /// Where control goes on from an instruction, if it isn't refused.
@@ -63,12 +62,25 @@ pub fn load_reference(shape: &mut Shape, local: u32) -> Result<Step, NoMemory>
     }
 }
 
+/// Puts a value of this kind into a local, if it is there.
+fn store(shape: &mut Shape, local: u32, kind: Kind) -> Step
+    ensures { flow_of result shape.new ≡ on_place (slice_get shape.old.locals local) (Next (with_local shape.old shape.old.stack local kind)) }
+{
+    let local = local as usize;
+    if local < shape.locals.len() {
+        shape.locals[local] = Some(kind);
+        Step::Next
+    } else {
+        Step::Refused
+    }
+}
+
 /// An int goes to a local.
 pub fn store_int(shape: &mut Shape, local: u32) -> Step
     ensures { flow_of result shape.new ≡ on_int shape.old.stack (λ rest. on_place (slice_get shape.old.locals local) (Next (with_local shape.old rest local kind.Int))) }
 {
     match shape.pop() {
-        Some(Kind::Int) => shape.store(local, Kind::Int),
+        Some(Kind::Int) => store(shape, local, Kind::Int),
         _ => Step::Refused,
     }
 }
@@ -79,7 +91,7 @@ pub fn store_reference(shape: &mut Shape, local: u32) -> Step
 {
     match shape.pop() {
         Some(Kind::Int) => Step::Refused,
-        Some(kind) => shape.store(local, kind),
+        Some(kind) => store(shape, local, kind),
         None => Step::Refused,
     }
 }

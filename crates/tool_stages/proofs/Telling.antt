@@ -2,8 +2,8 @@
 use Rattle.std.proofs.Common.{◌≡◌, ℕ, List, Result, Ok, Err, ◌∙◌, ap}
 use Rattle.std.specs.Prelude.{IfOk}
 use Rattle.vm_model.specs.Program.{PlainProgram}
-use Rattle.shape_verifier.specs.declared.fault.ShapeKind.{ShapeKind}
-use Rattle.shape_verifier.specs.Judging.{kind_number}
+use Rattle.shape_lattice.specs.declared.fault.ShapeKind.{ShapeKind}
+use Rattle.shape_lattice.specs.Faults.{kind_number}
 use Rattle.tool_stages.specs.Accepting.{linked, IsUnverified}
 use Rattle.tool_stages.specs.Files.{TellsShape}
 use Rattle.tool_stages.specs.Lines.{shape_line}

@@ -12,8 +12,8 @@ use Rattle.switch_schedule.specs.Texts as times
 use Rattle.jasmin_text.specs.Texts as texts
 use Rattle.jasmin_lines.specs.Faults as read
 use Rattle.name_resolver.specs.Faults as link
-use Rattle.shape_verifier.specs.declared.fault.ShapeKind.{ShapeKind}
-use Rattle.shape_verifier.specs.Judging as shape
+use Rattle.shape_lattice.specs.declared.fault.ShapeKind.{ShapeKind}
+use Rattle.shape_lattice.specs.Faults as shape
 use Rattle.tool_stages.specs.declared.status.Status.{Status}
 use Rattle.tool_stages.specs.declared.status.Status.TheVariants as status
 use Rattle.tool_stages.specs.declared.programs.ProgramFault.{ProgramFault}

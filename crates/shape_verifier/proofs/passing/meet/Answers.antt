@@ -1,5 +1,5 @@
 use Rattle.std.proofs.Common.{Bool, Ok, Some, ◌∙◌, ap, subst}
-use Rattle.shape_verifier.specs.Merging.{merged_shape, takes}
+use Rattle.shape_lattice.specs.Merging.{merged_shape, takes}
 use Rattle.shape_verifier.specs.Turning.{RaisedSo}
 use Rattle.shape_verifier.proofs.Places.{read, same_again}
 use Rattle.shape_verifier.proofs.Arriving.{stays, stops}
