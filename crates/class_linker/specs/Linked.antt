@@ -3,6 +3,7 @@ use Rattle.std.specs.Prelude.{ℕ, Bool, ◌||◌, if◌then◌else◌, nat_lt, 
 use Rattle.vm_model.specs.declared.limits.TheConstants.{MOST_TEXT_CONSTANT_BYTES}
 use Rattle.vm_model.specs.declared.instr.Instr.{Instr}
 use Rattle.vm_model.specs.declared.instr.Instr.TheVariants as instr
+use Rattle.vm_model.specs.Failures.{◌>>=◌, or_fault}
 use Rattle.jasmin_lines.specs.declared.class_text.Operand.{Operand}
 use Rattle.jasmin_lines.specs.declared.class_text.Operand.TheVariants as operand
 use Rattle.jasmin_lines.specs.Plain.{PlainLineText}
@@ -10,7 +11,6 @@ use Rattle.jasmin_lines.specs.Tables.{row_of}
 use Rattle.name_resolver.specs.declared.fault.LinkKind.{LinkKind}
 use Rattle.name_resolver.specs.declared.fault.LinkKind.TheVariants.{UnknownClass, UnknownLabel, TooMany, OutOfProfile}
 use Rattle.name_resolver.specs.declared.names.Names.{Names}
-use Rattle.name_resolver.specs.Lines.{◌>>=◌, or_fault}
 use Rattle.name_resolver.specs.Index.{Rows, value_of}
 use Rattle.built_in_classes.specs.Classes.{has_objects}
 use Rattle.name_resolver.specs.Descriptors.{class_of}

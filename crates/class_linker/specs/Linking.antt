@@ -2,13 +2,13 @@
 use Rattle.std.specs.Prelude.{◌≡◌, ℕ, List, [], ◌∷◌, ◌++◌, map, Option, Some, None, Result, Ok, Err}
 use Rattle.vm_model.specs.declared.limits.TheConstants.{FIRST_USER_CLASS}
 use Rattle.vm_model.specs.Program.{PlainProgram}
+use Rattle.vm_model.specs.Failures.{◌>>=◌}
 use Rattle.jasmin_lines.specs.Plain.{PlainClassText}
 use Rattle.name_resolver.specs.declared.fault.LinkKind.TheVariants.{NoMain}
 use Rattle.class_linker.specs.declared.fault.LinkFault.{LinkFault}
 use Rattle.class_linker.specs.declared.fault.LinkFault.TheVariants as fault
 use Rattle.class_linker.specs.declared.fault.Refusal.{Refusal}
 use Rattle.name_resolver.specs.declared.names.Names.{Names}
-use Rattle.name_resolver.specs.Lines.{◌>>=◌}
 use Rattle.name_resolver.specs.Names.{names_of, no_counts}
 use Rattle.class_linker.specs.Judging.{classes_judged}
 use Rattle.class_linker.specs.Bodies.{PlainTexts, texts_of, bodies_judged}

@@ -7,10 +7,10 @@ use crate::fault::Refusal;
 use crate::instructions::linked;
 use crate::least::{noted, only_if};
 use jasmin_lines::{CatchText, ClassText, LineText, MethodText, Operand};
-use name_resolver::{Index, LineError, LinkKind, Names, next};
+use name_resolver::{Index, LinkKind, Names, next};
 use std::alloc::Global;
 use std::marker::Model;
-use vm_model::{Instr, MOST_INSTRUCTIONS, Name, NoMemory};
+use vm_model::{Failure, Instr, MOST_INSTRUCTIONS, Name, NoMemory};
 
 /// Text constants, each once, in the order of the text.
 #[derive(Drop)]
@@ -185,8 +185,8 @@ fn fault_of(
 {
     match linked(alloc, names, thread_run, texts, labels, line) {
         Ok(_) => Ok(None),
-        Err(LineError::Kind(kind)) => Ok(Some(kind)),
-        Err(LineError::Memory) => Err(NoMemory),
+        Err(Failure::Fault(kind)) => Ok(Some(kind)),
+        Err(Failure::Memory) => Err(NoMemory),
     }
 }
 

@@ -1,16 +1,16 @@
 // Instructions with numbers in place of names.
 ghost use Rattle.std.specs.Prelude.{◌≡◌, Ok};
+ghost use Rattle.vm_model.specs.Failures.{Gives, or_fault};
 ghost use Rattle.name_resolver.specs.Index.{value_of};
-ghost use Rattle.name_resolver.specs.Lines.{Gives, or_fault};
 ghost use Rattle.name_resolver.specs.declared.fault.LinkKind.TheVariants.{OutOfProfile};
 ghost use Rattle.class_linker.specs.Linked as spec;
 ghost use Rattle.jasmin_lines.specs.Tables.{row_of};
 
 use built_in_classes::has_objects;
 use jasmin_lines::{LineText, Operand, is, row_of};
-use name_resolver::{Index, LineError, LinkKind, Names, call, class_of, field, first_some};
+use name_resolver::{Index, LinkKind, Names, call, class_of, field, first_some};
 use std::alloc::Global;
-use vm_model::{Instr, MOST_TEXT_CONSTANT_BYTES};
+use vm_model::{Failure, Instr, MOST_TEXT_CONSTANT_BYTES};
 
 const ALONE: [(&[u8], Instr); 30] = [
     (b"nop", Instr::Nop),
@@ -118,22 +118,22 @@ fn jump_to(word: &[u8], to: u32) -> Option<Instr>
     first_some(int_jump(word, to), others)
 }
 
-fn or_outside(found: Option<Instr>) -> Result<Instr, LineError>
+fn or_outside(found: Option<Instr>) -> Result<Instr, Failure<LinkKind>>
     ensures { Gives (λ x. x) result (or_fault OutOfProfile found) }
 {
     match found {
         Some(instr) => Ok(instr),
-        None => Err(LineError::Kind(LinkKind::OutOfProfile)),
+        None => Err(Failure::Fault(LinkKind::OutOfProfile)),
     }
 }
 
-fn plain(word: &[u8]) -> Result<Instr, LineError>
+fn plain(word: &[u8]) -> Result<Instr, Failure<LinkKind>>
     ensures { Gives (λ x. x) result (spec.plain word.now) }
 {
     or_outside(alone(word))
 }
 
-fn numbered(word: &[u8], n: i32) -> Result<Instr, LineError>
+fn numbered(word: &[u8], n: i32) -> Result<Instr, Failure<LinkKind>>
     ensures { Gives (λ x. x) result (spec.numbered word.now n) }
 {
     if is(word, b"ldc") {
@@ -147,26 +147,26 @@ fn numbered(word: &[u8], n: i32) -> Result<Instr, LineError>
     } else if is(word, b"astore") {
         Ok(Instr::Astore(n.unsigned_abs()))
     } else {
-        Err(LineError::Kind(LinkKind::OutOfProfile))
+        Err(Failure::Fault(LinkKind::OutOfProfile))
     }
 }
 
 /// A text constant, of at most 200 bytes.
 #[tactic(auto, unfolding(crate::specs::Linked::texted))]
-fn texted(texts: &Index, text: &[u8]) -> Result<Instr, LineError>
+fn texted(texts: &Index, text: &[u8]) -> Result<Instr, Failure<LinkKind>>
     ensures { Gives (λ x. x) result (spec.texted texts.now text.now) }
 {
     if text.len() > MOST_TEXT_CONSTANT_BYTES {
-        return Err(LineError::Kind(LinkKind::TooMany));
+        return Err(Failure::Fault(LinkKind::TooMany));
     }
     match texts.find(text) {
         Some(number) => Ok(Instr::PushText(number)),
-        None => Err(LineError::Kind(LinkKind::OutOfProfile)),
+        None => Err(Failure::Fault(LinkKind::OutOfProfile)),
     }
 }
 
 #[tactic(auto, unfolding(crate::specs::Linked::made))]
-fn made(names: &Names, class: &[u8]) -> Result<Instr, LineError>
+fn made(names: &Names, class: &[u8]) -> Result<Instr, Failure<LinkKind>>
     ensures { Gives (λ x. x) result (spec.made names.now class.now) }
 {
     match class_of(&names.classes, class) {
@@ -174,20 +174,20 @@ fn made(names: &Names, class: &[u8]) -> Result<Instr, LineError>
             if has_objects(number) {
                 Ok(Instr::New(number))
             } else {
-                Err(LineError::Kind(LinkKind::OutOfProfile))
+                Err(Failure::Fault(LinkKind::OutOfProfile))
             }
         }
-        None => Err(LineError::Kind(LinkKind::UnknownClass)),
+        None => Err(Failure::Fault(LinkKind::UnknownClass)),
     }
 }
 
 #[tactic(auto, unfolding(crate::specs::Linked::jumped))]
-fn jumped(labels: &Index, word: &[u8], label: &[u8]) -> Result<Instr, LineError>
+fn jumped(labels: &Index, word: &[u8], label: &[u8]) -> Result<Instr, Failure<LinkKind>>
     ensures { Gives (λ x. x) result (spec.jumped labels.now word.now label.now) }
 {
     match labels.find(label) {
         Some(to) => or_outside(jump_to(word, to)),
-        None => Err(LineError::Kind(LinkKind::UnknownLabel)),
+        None => Err(Failure::Fault(LinkKind::UnknownLabel)),
     }
 }
 
@@ -204,7 +204,7 @@ fn worded(
     labels: &Index,
     word: &[u8],
     operand: &[u8],
-) -> Result<Instr, LineError>
+) -> Result<Instr, Failure<LinkKind>>
     ensures { Gives (λ x. x) result (spec.worded names.now thread_run labels.now word.now operand.now) }
 {
     if is(word, b"new") {
@@ -226,7 +226,7 @@ pub fn linked(
     texts: &Index,
     labels: &Index,
     line: &LineText,
-) -> Result<Instr, LineError>
+) -> Result<Instr, Failure<LinkKind>>
     ensures { Gives (λ x. x) result (spec.linked names.now thread_run texts.now labels.now line.now) }
 {
     let word = line.word.bytes();
@@ -244,6 +244,6 @@ pub fn linked(
         [Operand::Word(member), Operand::Word(desc)] => {
             field(alloc, names, word, member.bytes(), desc.bytes())
         }
-        _ => Err(LineError::Kind(LinkKind::OutOfProfile)),
+        _ => Err(Failure::Fault(LinkKind::OutOfProfile)),
     }
 }

@@ -9,12 +9,12 @@ use crate::instructions::linked;
 use built_in_classes::{RUNNABLE, THREAD};
 use jasmin_lines::{ClassText, FieldText, LineText, MethodText};
 use name_resolver::{
-    Index, LineError, Names, Signature, has, is_static, is_thread, kind_of, method_key,
-    method_signature, next, type_of,
+    Index, Names, Signature, has, is_static, is_thread, kind_of, method_key, method_signature,
+    next, type_of,
 };
 use std::alloc::Global;
 use vm_model::{
-    Class, FIRST_USER_CLASS, Field, Instr, Kind, Method, Name, NoMemory, StaticSlot, Value,
+    Class, FIRST_USER_CLASS, Failure, Field, Instr, Kind, Method, Name, NoMemory, StaticSlot, Value,
 };
 
 // ---- fields
@@ -175,8 +175,8 @@ fn add_instr(
             code.push(instr)?;
             Ok(())
         }
-        Err(LineError::Kind(_)) => Ok(()),
-        Err(LineError::Memory) => Err(NoMemory),
+        Err(Failure::Fault(_)) => Ok(()),
+        Err(Failure::Memory) => Err(NoMemory),
     }
 }
 

@@ -1,5 +1,6 @@
 -- The lines that begin with a dot: one definition for each.
 use Rattle.std.specs.Prelude.{ℕ, ◌-◌, ◌&&◌, ◌||◌, if◌then◌else◌, List, [], ◌∷◌, length, take, slice_get, codes, bytes_eq, ℤ, pos, unsigned_abs, Option, Some, None, Result, Ok, Err}
+use Rattle.vm_model.specs.Failures.{◌>>=◌}
 use Rattle.jasmin_lines.specs.declared.class_text.NameAt.{NameAt}
 use Rattle.jasmin_lines.specs.declared.fault.ReadKind.{ReadKind}
 use Rattle.jasmin_lines.specs.declared.fault.ReadKind.TheVariants.{BadDirective, BadOperand}
@@ -7,7 +8,6 @@ use Rattle.jasmin_lines.specs.declared.form.Form.{Form}
 use Rattle.jasmin_lines.specs.declared.form.Form.TheVariants as form
 use Rattle.jasmin_lines.specs.declared.lexeme.Lexeme.{Lexeme}
 use Rattle.jasmin_lines.specs.declared.lexeme.Lexeme.TheVariants as lexeme
-use Rattle.jasmin_lines.specs.Faults.{◌>>=◌}
 use Rattle.jasmin_lines.specs.Plain.{PlainClassText, PlainMethodText}
 use Rattle.jasmin_lines.specs.Words.{one, two, word_of, number_of, is_word, named, is_name, is_class_name, is_method_name, name_of, class_name_of, described, flags_of}
 

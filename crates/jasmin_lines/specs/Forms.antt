@@ -1,11 +1,11 @@
 -- What the words of a line say, taken alone.
 use Rattle.std.specs.Prelude.{ℕ, ◌-◌, Bool, if◌then◌else◌, ◌==◌, List, [], ◌∷◌, length, take, slice_index, Option, Some, None, Result, Ok}
+use Rattle.vm_model.specs.Failures.{◌>>=◌}
 use Rattle.jasmin_lines.specs.declared.fault.ReadKind.{ReadKind}
 use Rattle.jasmin_lines.specs.declared.form.Form.{Form}
 use Rattle.jasmin_lines.specs.declared.form.Form.TheVariants as form
 use Rattle.jasmin_lines.specs.declared.lexeme.Lexeme.{Lexeme}
 use Rattle.jasmin_lines.specs.declared.lexeme.Lexeme.TheVariants as lexeme
-use Rattle.jasmin_lines.specs.Faults.{◌>>=◌}
 use Rattle.jasmin_lines.specs.Said.{PlainSaid}
 use Rattle.jasmin_lines.specs.Words.{named, is_name}
 use Rattle.jasmin_lines.specs.Instructions.{instruction}

@@ -1,6 +1,7 @@
 -- Instructions in their canonical form.
 use Rattle.std.specs.Prelude.{ℕ, ◌-◌, Bool, false, if◌then◌else◌, List, [], ◌∷◌, codes, ℤ, pos, negsuc, Option, Some, None, Result, Ok, Err}
 use Rattle.vm_model.specs.declared.limits.TheConstants.{MOST_LOCALS}
+use Rattle.vm_model.specs.Failures.{◌>>=◌, or_fault}
 use Rattle.jasmin_lines.specs.declared.class_text.Operand.{Operand}
 use Rattle.jasmin_lines.specs.declared.class_text.Operand.TheVariants as operand
 use Rattle.jasmin_lines.specs.declared.lexeme.Lexeme.{Lexeme}
@@ -11,7 +12,6 @@ use Rattle.jasmin_lines.specs.declared.mnemonic.Mnemonic.{Mnemonic}
 use Rattle.jasmin_lines.specs.declared.mnemonic.Mnemonic.TheVariants as mnemonic
 use Rattle.jasmin_lines.specs.declared.fault.ReadKind.{ReadKind}
 use Rattle.jasmin_lines.specs.declared.fault.ReadKind.TheVariants.{BadMnemonic, BadOperand}
-use Rattle.jasmin_lines.specs.Faults.{◌>>=◌, or_fault}
 use Rattle.jasmin_lines.specs.Said.{PlainSaid}
 use Rattle.jasmin_lines.specs.Words.{none, one, two, word_of, number_of, is_word, name_of, class_name_of, named, is_name, is_method_name, is_member, described}
 use Rattle.jasmin_lines.specs.Mnemonics.{mnemonic_of}

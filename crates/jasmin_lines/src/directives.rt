@@ -1,10 +1,10 @@
 // The lines that begin with a dot.
 ghost use Rattle.std.specs.Prelude.{◌≡◌, Ok, true, int_le, pos};
-ghost use Rattle.jasmin_lines.specs.Faults.{Gives};
+ghost use Rattle.vm_model.specs.Failures.{Gives};
 ghost use Rattle.jasmin_lines.specs.Directives as spec;
 
 use crate::class_text::{CatchText, ClassText, FieldText, MethodText, NameAt};
-use crate::fault::{FormError, ReadKind};
+use crate::fault::ReadKind;
 use crate::form::Form;
 use crate::lexeme::Lexeme;
 use crate::names::{
@@ -12,7 +12,7 @@ use crate::names::{
 };
 use crate::words::{copied, flags_of, is, is_word, number_of, one, two, word_of};
 use std::alloc::Global;
-use vm_model::Name;
+use vm_model::{Failure, Name};
 
 const CLASS_FLAGS: [&[u8]; 6] = [
     b"public",
@@ -48,36 +48,36 @@ const METHOD_FLAGS: [&[u8]; 9] = [
     b"native",
 ];
 
-fn class_flags(alloc: Global, words: &[Lexeme]) -> Result<Vec<Name>, FormError>
+fn class_flags(alloc: Global, words: &[Lexeme]) -> Result<Vec<Name>, Failure<ReadKind>>
     ensures { Gives (λ x. x.items) result (spec.class_flags words.now) }
 {
     flags_of(alloc, &CLASS_FLAGS, words)
 }
 
-fn field_flags(alloc: Global, words: &[Lexeme]) -> Result<Vec<Name>, FormError>
+fn field_flags(alloc: Global, words: &[Lexeme]) -> Result<Vec<Name>, Failure<ReadKind>>
     ensures { Gives (λ x. x.items) result (spec.field_flags words.now) }
 {
     flags_of(alloc, &FIELD_FLAGS, words)
 }
 
-fn method_flags(alloc: Global, words: &[Lexeme]) -> Result<Vec<Name>, FormError>
+fn method_flags(alloc: Global, words: &[Lexeme]) -> Result<Vec<Name>, Failure<ReadKind>>
     ensures { Gives (λ x. x.items) result (spec.method_flags words.now) }
 {
     flags_of(alloc, &METHOD_FLAGS, words)
 }
 
 /// The last word, and those before it.
-fn split_last(words: &[Lexeme]) -> Result<(&[Lexeme], &Lexeme), FormError>
+fn split_last(words: &[Lexeme]) -> Result<(&[Lexeme], &Lexeme), Failure<ReadKind>>
     ensures { Gives (λ x. (x.0.now, x.1.now)) result (spec.split_last words.now) }
 {
     match words {
         [front @ .., last] => Ok((front, last)),
-        [] => Err(FormError::Kind(ReadKind::BadOperand)),
+        [] => Err(Failure::Fault(ReadKind::BadOperand)),
     }
 }
 
 #[tactic(auto, unfolding(crate::specs::Directives::source_form))]
-fn source_form(words: &[Lexeme]) -> Result<Form, FormError>
+fn source_form(words: &[Lexeme]) -> Result<Form, Failure<ReadKind>>
     ensures { Gives (λ x. x) result (spec.source_form words.now) }
 {
     one(words)?;
@@ -85,7 +85,7 @@ fn source_form(words: &[Lexeme]) -> Result<Form, FormError>
 }
 
 #[tactic(auto, unfolding(crate::specs::Directives::class_form))]
-fn class_form(alloc: Global, line: u32, words: &[Lexeme]) -> Result<Form, FormError>
+fn class_form(alloc: Global, line: u32, words: &[Lexeme]) -> Result<Form, Failure<ReadKind>>
     ensures { Gives (λ x. x) result (spec.class_form line words.now) }
 {
     let (front, last) = split_last(words)?;
@@ -105,7 +105,7 @@ fn class_form(alloc: Global, line: u32, words: &[Lexeme]) -> Result<Form, FormEr
 
 /// The name of a class, alone in its line.
 #[tactic(auto, unfolding(crate::specs::Directives::name_at))]
-fn name_at(alloc: Global, line: u32, words: &[Lexeme]) -> Result<NameAt, FormError>
+fn name_at(alloc: Global, line: u32, words: &[Lexeme]) -> Result<NameAt, Failure<ReadKind>>
     ensures { Gives (λ x. x) result (spec.name_at line words.now) }
 {
     let word = one(words)?;
@@ -131,7 +131,7 @@ fn field_of(
     line: u32,
     words: &[Lexeme],
     value: Option<i32>,
-) -> Result<Form, FormError>
+) -> Result<Form, Failure<ReadKind>>
     ensures { Gives (λ x. x) result (spec.field_of line words.now value) }
 {
     let (before, desc) = split_last(words)?;
@@ -148,7 +148,7 @@ fn field_of(
     }))
 }
 
-fn field_form(alloc: Global, line: u32, words: &[Lexeme]) -> Result<Form, FormError>
+fn field_form(alloc: Global, line: u32, words: &[Lexeme]) -> Result<Form, Failure<ReadKind>>
     ensures { Gives (λ x. x) result (spec.field_form line words.now) }
 {
     let (declared, value) = valued(words);
@@ -156,7 +156,7 @@ fn field_form(alloc: Global, line: u32, words: &[Lexeme]) -> Result<Form, FormEr
 }
 
 #[tactic(auto, unfolding(crate::specs::Directives::method_form))]
-fn method_form(alloc: Global, line: u32, words: &[Lexeme]) -> Result<Form, FormError>
+fn method_form(alloc: Global, line: u32, words: &[Lexeme]) -> Result<Form, Failure<ReadKind>>
     ensures { Gives (λ x. x) result (spec.method_form line words.now) }
 {
     let (front, last) = split_last(words)?;
@@ -177,7 +177,7 @@ fn method_form(alloc: Global, line: u32, words: &[Lexeme]) -> Result<Form, FormE
     }))
 }
 
-fn limit_of(kind: &Lexeme, n: i32) -> Result<Form, FormError>
+fn limit_of(kind: &Lexeme, n: i32) -> Result<Form, Failure<ReadKind>>
     requires { int_le (pos 0) n ≡ true }
     ensures { Gives (λ x. x) result (spec.limit_of kind.now n) }
 {
@@ -186,12 +186,12 @@ fn limit_of(kind: &Lexeme, n: i32) -> Result<Form, FormError>
     } else if is_word(b"locals", kind) {
         Ok(Form::LocalsLimit(n as u32))
     } else {
-        Err(FormError::Kind(ReadKind::BadOperand))
+        Err(Failure::Fault(ReadKind::BadOperand))
     }
 }
 
 #[tactic(auto, unfolding(crate::specs::Directives::limit_form))]
-fn limit_form(words: &[Lexeme]) -> Result<Form, FormError>
+fn limit_form(words: &[Lexeme]) -> Result<Form, Failure<ReadKind>>
     ensures { Gives (λ x. x) result (spec.limit_form words.now) }
 {
     let (kind, number) = two(words)?;
@@ -200,14 +200,14 @@ fn limit_form(words: &[Lexeme]) -> Result<Form, FormError>
 }
 
 #[tactic(auto, unfolding(crate::specs::Directives::end_form))]
-fn end_form(words: &[Lexeme]) -> Result<Form, FormError>
+fn end_form(words: &[Lexeme]) -> Result<Form, Failure<ReadKind>>
     ensures { Gives (λ x. x) result (spec.end_form words.now) }
 {
     let word = one(words)?;
     if is_word(b"method", word) {
         Ok(Form::End)
     } else {
-        Err(FormError::Kind(ReadKind::BadOperand))
+        Err(Failure::Fault(ReadKind::BadOperand))
     }
 }
 
@@ -219,7 +219,7 @@ fn catch_of(
     from: &Lexeme,
     to: &Lexeme,
     handler: &Lexeme,
-) -> Result<Form, FormError>
+) -> Result<Form, Failure<ReadKind>>
     ensures { Gives (λ x. x) result (spec.catch_of line class.now from.now to.now handler.now) }
 {
     let class = word_of(class)?;
@@ -235,7 +235,7 @@ fn catch_of(
     }))
 }
 
-fn catch_form(alloc: Global, line: u32, words: &[Lexeme]) -> Result<Form, FormError>
+fn catch_form(alloc: Global, line: u32, words: &[Lexeme]) -> Result<Form, Failure<ReadKind>>
     ensures { Gives (λ x. x) result (spec.catch_form line words.now) }
 {
     match words {
@@ -243,10 +243,10 @@ fn catch_form(alloc: Global, line: u32, words: &[Lexeme]) -> Result<Form, FormEr
             if is_word(b"from", a) && is_word(b"to", b) && is_word(b"using", c) {
                 catch_of(alloc, line, class, from, to, using)
             } else {
-                Err(FormError::Kind(ReadKind::BadOperand))
+                Err(Failure::Fault(ReadKind::BadOperand))
             }
         }
-        _ => Err(FormError::Kind(ReadKind::BadOperand)),
+        _ => Err(Failure::Fault(ReadKind::BadOperand)),
     }
 }
 
@@ -256,7 +256,7 @@ fn class_directive(
     line: u32,
     first: &[u8],
     words: &[Lexeme],
-) -> Result<Form, FormError>
+) -> Result<Form, Failure<ReadKind>>
     ensures { Gives (λ x. x) result (spec.class_directive line first.now words.now) }
 {
     if is(first, b".class") {
@@ -270,7 +270,7 @@ fn class_directive(
     } else if is(first, b".method") {
         method_form(alloc, line, words)
     } else {
-        Err(FormError::Kind(ReadKind::BadDirective))
+        Err(Failure::Fault(ReadKind::BadDirective))
     }
 }
 
@@ -280,7 +280,7 @@ fn method_directive(
     line: u32,
     first: &[u8],
     words: &[Lexeme],
-) -> Result<Form, FormError>
+) -> Result<Form, Failure<ReadKind>>
     ensures { Gives (λ x. x) result (spec.method_directive line first.now words.now) }
 {
     if is(first, b".limit") {
@@ -302,7 +302,7 @@ pub fn directive_form(
     line: u32,
     first: &[u8],
     words: &[Lexeme],
-) -> Result<Form, FormError>
+) -> Result<Form, Failure<ReadKind>>
     ensures { Gives (λ x. x) result (spec.directive_form line first.now words.now) }
 {
     if is(first, b".source") || is(first, b".bytecode") {

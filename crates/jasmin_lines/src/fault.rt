@@ -1,9 +1,6 @@
 //! Why a line of a text isn't read.
 
-ghost use Rattle.jasmin_lines.specs.declared.fault.FormError.TheVariants.{Memory};
 ghost use Rattle.std.specs.Prelude.{◌≡◌};
-
-use std::alloc::{AllocError, AllocFailed};
 
 /// How a line breaks the grammar. Of several faults of one line the one with the least number counts.
 #[derive(Clone, Copy, Debug, PartialEq, Eq)]
@@ -56,36 +53,5 @@ impl ReadKind {
             ReadKind::TooMany => 11,
             ReadKind::Repeat => 12,
         }
-    }
-}
-
-/// Why a line, or several, weren't read.
-#[derive(Debug, Drop)]
-pub enum FormError {
-    Memory,
-    Kind(ReadKind),
-}
-
-impl From<AllocError> for FormError {
-    ghost from_gives = { λ _ e. e ≡ Memory };
-
-    fn from(_e: AllocError) -> FormError {
-        FormError::Memory
-    }
-}
-
-impl From<vm_model::NoMemory> for FormError {
-    ghost from_gives = { λ _ e. e ≡ Memory };
-
-    fn from(_e: vm_model::NoMemory) -> FormError {
-        FormError::Memory
-    }
-}
-
-impl<T: Drop> From<AllocFailed<T>> for FormError {
-    ghost from_gives = { λ _ e. e ≡ Memory };
-
-    fn from(_e: AllocFailed<T>) -> FormError {
-        FormError::Memory
     }
 }

@@ -1,16 +1,16 @@
 // What a line says, taken alone.
 ghost use Rattle.std.specs.Prelude.{◌≡◌, Ok, option_copied};
-ghost use Rattle.jasmin_lines.specs.Faults.{Gives};
+ghost use Rattle.vm_model.specs.Failures.{Gives};
 ghost use Rattle.jasmin_lines.specs.Forms as spec;
 
 use crate::class_text::{CatchText, ClassText, FieldText, LineText, MethodText, NameAt};
 use crate::directives::directive_form;
-use crate::fault::FormError;
+use crate::fault::ReadKind;
 use crate::instructions::instruction;
 use crate::lexeme::Lexeme;
 use crate::names::{is_name, named};
 use std::alloc::Global;
-use vm_model::Name;
+use vm_model::{Failure, Name};
 
 /// What a line says. A class and a method come without what stands in them.
 #[derive(Debug, Drop)]
@@ -38,7 +38,7 @@ pub enum Form {
 
 /// An instruction of a line that has no label.
 #[tactic(auto, unfolding(crate::specs::Forms::unlabelled_form))]
-fn unlabelled_form(alloc: Global, line: u32, words: &[Lexeme]) -> Result<Form, FormError>
+fn unlabelled_form(alloc: Global, line: u32, words: &[Lexeme]) -> Result<Form, Failure<ReadKind>>
     ensures { Gives (λ x. x) result (spec.unlabelled_form line words.now) }
 {
     let said = instruction(alloc, words)?;
@@ -57,7 +57,7 @@ fn labelled_form(
     line: u32,
     label: &[u8],
     words: &[Lexeme],
-) -> Result<Form, FormError>
+) -> Result<Form, Failure<ReadKind>>
     ensures { Gives (λ x. x) result (spec.labelled_form line label.now words.now) }
 {
     if words.is_empty() {
@@ -92,7 +92,7 @@ fn form_by(
     first: &[u8],
     words: &[Lexeme],
     all: &[Lexeme],
-) -> Result<Form, FormError>
+) -> Result<Form, Failure<ReadKind>>
     ensures { Gives (λ x. x) result (spec.form_by line first.now words.now all.now) }
 {
     if let [b'.', ..] = first {
@@ -106,7 +106,7 @@ fn form_by(
 
 /// What a line of these words says.
 #[tactic(auto, unfolding(crate::specs::Forms::form_of))]
-pub fn form_of(alloc: Global, line: u32, words: &[Lexeme]) -> Result<Form, FormError>
+pub fn form_of(alloc: Global, line: u32, words: &[Lexeme]) -> Result<Form, Failure<ReadKind>>
     ensures { Gives (λ x. x) result (spec.form_of line words.now) }
 {
     match words {

@@ -1,11 +1,11 @@
 // Instructions in their canonical form.
 ghost use Rattle.std.specs.Prelude.{◌≡◌, Ok};
-ghost use Rattle.jasmin_lines.specs.Faults.{Gives};
+ghost use Rattle.vm_model.specs.Failures.{Gives};
 ghost use Rattle.jasmin_lines.specs.Instructions as spec;
 ghost use Rattle.jasmin_lines.specs.Mnemonics as mnemonics;
 
 use crate::class_text::Operand;
-use crate::fault::{FormError, ReadKind};
+use crate::fault::ReadKind;
 use crate::lexeme::Lexeme;
 use crate::mnemonic::{Access, MNEMONICS, Mnemonic};
 use crate::names::{class_name_of, described, is_field, is_method, name_of, named};
@@ -13,7 +13,7 @@ use crate::tables::row_of;
 use crate::words::{copied, is_word, none, number_of, one, two, word_of};
 use std::alloc::Global;
 use std::marker::Model;
-use vm_model::{MOST_LOCALS, Name};
+use vm_model::{Failure, MOST_LOCALS, Name};
 
 /// A mnemonic with its operands.
 #[derive(Debug, Drop)]
@@ -30,7 +30,7 @@ impl Model for Said {
     ghost view = { λ s. record { word = s.word; operands = s.operands.items } };
 }
 
-fn without_operands(alloc: Global, word: &[u8]) -> Result<Said, FormError>
+fn without_operands(alloc: Global, word: &[u8]) -> Result<Said, Failure<ReadKind>>
     ensures { Gives (λ x. x) result (Ok (spec.alone word.now)) }
 {
     Ok(Said {
@@ -39,7 +39,7 @@ fn without_operands(alloc: Global, word: &[u8]) -> Result<Said, FormError>
     })
 }
 
-fn with_operand(alloc: Global, word: &[u8], operand: Operand) -> Result<Said, FormError>
+fn with_operand(alloc: Global, word: &[u8], operand: Operand) -> Result<Said, Failure<ReadKind>>
     ensures { Gives (λ x. x) result (Ok (spec.with_one word.now operand)) }
 {
     let mut operands = Vec::new(alloc);
@@ -55,7 +55,7 @@ fn with_operands(
     word: &[u8],
     first: Operand,
     second: Operand,
-) -> Result<Said, FormError>
+) -> Result<Said, Failure<ReadKind>>
     ensures { Gives (λ x. x) result (Ok (spec.with_two word.now first second)) }
 {
     let mut operands = Vec::new(alloc);
@@ -67,7 +67,7 @@ fn with_operands(
     })
 }
 
-fn pushed(alloc: Global, n: i32) -> Result<Said, FormError>
+fn pushed(alloc: Global, n: i32) -> Result<Said, Failure<ReadKind>>
     ensures { Gives (λ x. x) result (Ok (spec.pushed n)) }
 {
     with_operand(alloc, b"ldc", Operand::Number(n))
@@ -84,13 +84,13 @@ fn access_word(access: Access) -> &'static [u8]
     }
 }
 
-fn on_local(alloc: Global, access: Access, n: i32) -> Result<Said, FormError>
+fn on_local(alloc: Global, access: Access, n: i32) -> Result<Said, Failure<ReadKind>>
     ensures { Gives (λ x. x) result (Ok (spec.on_local access n)) }
 {
     with_operand(alloc, access_word(access), Operand::Number(n))
 }
 
-fn constant_of(alloc: Global, word: &Lexeme) -> Result<Said, FormError>
+fn constant_of(alloc: Global, word: &Lexeme) -> Result<Said, Failure<ReadKind>>
     ensures { Gives (λ x. x) result (spec.constant_of word.now) }
 {
     match word {
@@ -100,13 +100,13 @@ fn constant_of(alloc: Global, word: &Lexeme) -> Result<Said, FormError>
             b"ldc",
             Operand::Text(copied(alloc, text.bytes())?),
         ),
-        Lexeme::Word(_) => Err(FormError::Kind(ReadKind::BadOperand)),
+        Lexeme::Word(_) => Err(Failure::Fault(ReadKind::BadOperand)),
     }
 }
 
 /// An int or a text.
 #[tactic(auto, unfolding(crate::specs::Instructions::constant))]
-fn constant(alloc: Global, words: &[Lexeme]) -> Result<Said, FormError>
+fn constant(alloc: Global, words: &[Lexeme]) -> Result<Said, Failure<ReadKind>>
     ensures { Gives (λ x. x) result (spec.constant words.now) }
 {
     let word = one(words)?;
@@ -114,7 +114,7 @@ fn constant(alloc: Global, words: &[Lexeme]) -> Result<Said, FormError>
 }
 
 #[tactic(auto, unfolding(crate::specs::Instructions::push))]
-fn push(alloc: Global, low: i32, high: i32, words: &[Lexeme]) -> Result<Said, FormError>
+fn push(alloc: Global, low: i32, high: i32, words: &[Lexeme]) -> Result<Said, Failure<ReadKind>>
     ensures { Gives (λ x. x) result (spec.push low high words.now) }
 {
     let word = one(words)?;
@@ -123,7 +123,7 @@ fn push(alloc: Global, low: i32, high: i32, words: &[Lexeme]) -> Result<Said, Fo
 }
 
 #[tactic(auto, unfolding(crate::specs::Instructions::local))]
-fn local(alloc: Global, access: Access, words: &[Lexeme]) -> Result<Said, FormError>
+fn local(alloc: Global, access: Access, words: &[Lexeme]) -> Result<Said, Failure<ReadKind>>
     ensures { Gives (λ x. x) result (spec.local access words.now) }
 {
     let word = one(words)?;
@@ -132,7 +132,7 @@ fn local(alloc: Global, access: Access, words: &[Lexeme]) -> Result<Said, FormEr
 }
 
 #[tactic(auto, unfolding(crate::specs::Instructions::increment))]
-fn increment(alloc: Global, words: &[Lexeme]) -> Result<Said, FormError>
+fn increment(alloc: Global, words: &[Lexeme]) -> Result<Said, Failure<ReadKind>>
     ensures { Gives (λ x. x) result (spec.increment words.now) }
 {
     let (first, second) = two(words)?;
@@ -142,7 +142,7 @@ fn increment(alloc: Global, words: &[Lexeme]) -> Result<Said, FormError>
 }
 
 #[tactic(auto, unfolding(crate::specs::Instructions::jump))]
-fn jump(alloc: Global, mnemonic: &[u8], words: &[Lexeme]) -> Result<Said, FormError>
+fn jump(alloc: Global, mnemonic: &[u8], words: &[Lexeme]) -> Result<Said, Failure<ReadKind>>
     ensures { Gives (λ x. x) result (spec.jump mnemonic.now words.now) }
 {
     let word = one(words)?;
@@ -152,7 +152,7 @@ fn jump(alloc: Global, mnemonic: &[u8], words: &[Lexeme]) -> Result<Said, FormEr
 
 /// A field of a class, and its descriptor.
 #[tactic(auto, unfolding(crate::specs::Instructions::field))]
-fn field(alloc: Global, mnemonic: &[u8], words: &[Lexeme]) -> Result<Said, FormError>
+fn field(alloc: Global, mnemonic: &[u8], words: &[Lexeme]) -> Result<Said, Failure<ReadKind>>
     ensures { Gives (λ x. x) result (spec.field mnemonic.now words.now) }
 {
     let (first, second) = two(words)?;
@@ -170,7 +170,7 @@ fn field(alloc: Global, mnemonic: &[u8], words: &[Lexeme]) -> Result<Said, FormE
 
 /// A method of a class with its descriptor.
 #[tactic(auto, unfolding(crate::specs::Instructions::call))]
-fn call(alloc: Global, mnemonic: &[u8], words: &[Lexeme]) -> Result<Said, FormError>
+fn call(alloc: Global, mnemonic: &[u8], words: &[Lexeme]) -> Result<Said, Failure<ReadKind>>
     ensures { Gives (λ x. x) result (spec.call mnemonic.now words.now) }
 {
     let word = one(words)?;
@@ -182,7 +182,7 @@ fn call(alloc: Global, mnemonic: &[u8], words: &[Lexeme]) -> Result<Said, FormEr
 }
 
 #[tactic(auto, unfolding(crate::specs::Instructions::class))]
-fn class(alloc: Global, mnemonic: &[u8], words: &[Lexeme]) -> Result<Said, FormError>
+fn class(alloc: Global, mnemonic: &[u8], words: &[Lexeme]) -> Result<Said, Failure<ReadKind>>
     ensures { Gives (λ x. x) result (spec.class mnemonic.now words.now) }
 {
     let word = one(words)?;
@@ -199,7 +199,7 @@ fn is_int(words: &[Lexeme]) -> bool
     }
 }
 
-fn array(alloc: Global, mnemonic: &[u8], words: &[Lexeme]) -> Result<Said, FormError>
+fn array(alloc: Global, mnemonic: &[u8], words: &[Lexeme]) -> Result<Said, Failure<ReadKind>>
     ensures { Gives (λ x. x) result (Ok (spec.array mnemonic.now words.now)) }
 {
     if is_int(words) {
@@ -221,7 +221,7 @@ fn said_by(
     word: &[u8],
     words: &[Lexeme],
     mnemonic: Mnemonic,
-) -> Result<Said, FormError>
+) -> Result<Said, Failure<ReadKind>>
     ensures { Gives (λ x. x) result (spec.said_by word.now words.now mnemonic) }
 {
     match mnemonic {
@@ -251,14 +251,14 @@ fn said_by(
 }
 
 /// The instruction of these words.
-pub fn instruction(alloc: Global, words: &[Lexeme]) -> Result<Said, FormError>
+pub fn instruction(alloc: Global, words: &[Lexeme]) -> Result<Said, Failure<ReadKind>>
     ensures { Gives (λ x. x) result (spec.instruction words.now) }
 {
     match words {
         [Lexeme::Word(first), rest @ ..] => match mnemonic_of(first.bytes()) {
             Some(mnemonic) => said_by(alloc, first.bytes(), rest, mnemonic),
-            None => Err(FormError::Kind(ReadKind::BadMnemonic)),
+            None => Err(Failure::Fault(ReadKind::BadMnemonic)),
         },
-        _ => Err(FormError::Kind(ReadKind::BadMnemonic)),
+        _ => Err(Failure::Fault(ReadKind::BadMnemonic)),
     }
 }

@@ -13,7 +13,7 @@ mod tables;
 mod words;
 
 pub use class_text::{CatchText, ClassText, FieldText, LineText, MethodText, NameAt, Operand};
-pub use fault::{FormError, ReadKind};
+pub use fault::ReadKind;
 pub use form::{Form, form_of};
 pub use lexeme::{Lexeme, Line, lines_of};
 pub use names::{is_class_name, last_slash};

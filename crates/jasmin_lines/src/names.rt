@@ -1,14 +1,14 @@
 // The forms of names, and words that are made of several.
 ghost use Rattle.std.specs.Prelude.{◌≡◌, ◌==◌, position, Ok, IfSome, ◌<◌, ◌≤◌, length, IfOk};
 ghost use Rattle.std.specs.List.{list_any, list_all};
-ghost use Rattle.jasmin_lines.specs.Faults.{Gives};
+ghost use Rattle.vm_model.specs.Failures.{Gives};
 ghost use Rattle.jasmin_lines.specs.Words as spec;
 
-use crate::fault::{FormError, ReadKind};
+use crate::fault::ReadKind;
 use crate::lexeme::Lexeme;
 use crate::words::{is, word_of};
 use std::alloc::Global;
-use vm_model::Name;
+use vm_model::{Failure, Name};
 
 fn is_name_byte(b: u8) -> bool
     ensures { result ≡ spec.is_name_byte b }
@@ -56,24 +56,24 @@ pub fn is_method_name(bytes: &[u8]) -> bool
 }
 
 /// A copy of a name, where it has the right form.
-pub fn named(alloc: Global, is_good: bool, bytes: &[u8]) -> Result<Name, FormError>
+pub fn named(alloc: Global, is_good: bool, bytes: &[u8]) -> Result<Name, Failure<ReadKind>>
     ensures { Gives (λ x. x) result (spec.named is_good bytes.now) }
 {
     if is_good {
         Ok(Name::of(alloc, bytes)?)
     } else {
-        Err(FormError::Kind(ReadKind::BadName))
+        Err(Failure::Fault(ReadKind::BadName))
     }
 }
 
-pub fn name_of(alloc: Global, word: &Lexeme) -> Result<Name, FormError>
+pub fn name_of(alloc: Global, word: &Lexeme) -> Result<Name, Failure<ReadKind>>
     ensures { Gives (λ x. x) result (spec.name_of word.now) }
 {
     let bytes = word_of(word)?;
     named(alloc, is_name(bytes), bytes)
 }
 
-pub fn class_name_of(alloc: Global, word: &Lexeme) -> Result<Name, FormError>
+pub fn class_name_of(alloc: Global, word: &Lexeme) -> Result<Name, Failure<ReadKind>>
     ensures { Gives (λ x. x) result (spec.class_name_of word.now) }
 {
     let bytes = word_of(word)?;
@@ -99,22 +99,22 @@ pub fn last_slash(bytes: &[u8]) -> Option<usize>
 }
 
 /// Whether a field's word has the names of a class and of a field.
-pub fn is_field(bytes: &[u8]) -> Result<bool, FormError>
+pub fn is_field(bytes: &[u8]) -> Result<bool, Failure<ReadKind>>
     ensures { Gives (λ x. x) result (spec.is_member spec.is_name bytes.now) }
 {
     match last_slash(bytes) {
         Some(end) => Ok(is_class_name(&bytes[..end]) && is_name(&bytes[end + 1..])),
-        None => Err(FormError::Kind(ReadKind::BadOperand)),
+        None => Err(Failure::Fault(ReadKind::BadOperand)),
     }
 }
 
 /// Whether a method's word, without its descriptor, has the names of a class and of a method.
-pub fn is_method(bytes: &[u8]) -> Result<bool, FormError>
+pub fn is_method(bytes: &[u8]) -> Result<bool, Failure<ReadKind>>
     ensures { Gives (λ x. x) result (spec.is_member spec.is_method_name bytes.now) }
 {
     match last_slash(bytes) {
         Some(end) => Ok(is_class_name(&bytes[..end]) && is_method_name(&bytes[end + 1..])),
-        None => Err(FormError::Kind(ReadKind::BadOperand)),
+        None => Err(Failure::Fault(ReadKind::BadOperand)),
     }
 }
 
@@ -131,7 +131,7 @@ fn is_closed(bytes: &[u8]) -> bool
 }
 
 /// The name of a method, and its descriptor.
-pub fn described(bytes: &[u8]) -> Result<(&[u8], &[u8]), FormError>
+pub fn described(bytes: &[u8]) -> Result<(&[u8], &[u8]), Failure<ReadKind>>
     ensures { Gives (λ x. (x.0.now, x.1.now)) result (spec.described bytes.now) }
 {
     match find_open(bytes) {
@@ -140,9 +140,9 @@ pub fn described(bytes: &[u8]) -> Result<(&[u8], &[u8]), FormError>
             if is_closed(desc) {
                 Ok((&bytes[..open], desc))
             } else {
-                Err(FormError::Kind(ReadKind::BadOperand))
+                Err(Failure::Fault(ReadKind::BadOperand))
             }
         }
-        None => Err(FormError::Kind(ReadKind::BadOperand)),
+        None => Err(Failure::Fault(ReadKind::BadOperand)),
     }
 }

@@ -1,55 +1,55 @@
 // What a line's words are.
 ghost use Rattle.std.specs.Prelude.{◌≡◌, bytes_eq, Ok, Err};
 ghost use Rattle.std.specs.List.{list_any, list_all};
-ghost use Rattle.jasmin_lines.specs.Faults.{Gives};
 ghost use Rattle.jasmin_lines.specs.Texts.{texts};
 ghost use Rattle.jasmin_lines.specs.Words as spec;
 ghost use denote.Ref.{Bor};
 ghost use Rattle.std.specs.Prelude.{List, ℕ};
+ghost use Rattle.vm_model.specs.Failures.{Gives};
 
-use crate::fault::{FormError, ReadKind};
+use crate::fault::ReadKind;
 use crate::lexeme::Lexeme;
 use std::alloc::Global;
-use vm_model::{Name, NoMemory};
+use vm_model::{Failure, Name, NoMemory};
 
-pub fn none(words: &[Lexeme]) -> Result<(), FormError>
+pub fn none(words: &[Lexeme]) -> Result<(), Failure<ReadKind>>
     ensures { Gives (λ x. x) result (spec.none words.now) }
 {
     match words {
         [] => Ok(()),
-        _ => Err(FormError::Kind(ReadKind::BadOperand)),
+        _ => Err(Failure::Fault(ReadKind::BadOperand)),
     }
 }
 
-pub fn one(words: &[Lexeme]) -> Result<&Lexeme, FormError>
+pub fn one(words: &[Lexeme]) -> Result<&Lexeme, Failure<ReadKind>>
     ensures { Gives (λ x. x.now) result (spec.one words.now) }
 {
     match words {
         [word] => Ok(word),
-        _ => Err(FormError::Kind(ReadKind::BadOperand)),
+        _ => Err(Failure::Fault(ReadKind::BadOperand)),
     }
 }
 
-pub fn two(words: &[Lexeme]) -> Result<(&Lexeme, &Lexeme), FormError>
+pub fn two(words: &[Lexeme]) -> Result<(&Lexeme, &Lexeme), Failure<ReadKind>>
     ensures { Gives (λ x. (x.0.now, x.1.now)) result (spec.two words.now) }
 {
     match words {
         [first, second] => Ok((first, second)),
-        _ => Err(FormError::Kind(ReadKind::BadOperand)),
+        _ => Err(Failure::Fault(ReadKind::BadOperand)),
     }
 }
 
-pub fn word_of(word: &Lexeme) -> Result<&[u8], FormError>
+pub fn word_of(word: &Lexeme) -> Result<&[u8], Failure<ReadKind>>
     ensures { Gives (λ x. x.now) result (spec.word_of word.now) }
 {
     match word {
         Lexeme::Word(name) => Ok(name.bytes()),
-        _ => Err(FormError::Kind(ReadKind::BadOperand)),
+        _ => Err(Failure::Fault(ReadKind::BadOperand)),
     }
 }
 
 /// A number from low to high.
-pub fn number_of(low: i32, high: i32, word: &Lexeme) -> Result<i32, FormError>
+pub fn number_of(low: i32, high: i32, word: &Lexeme) -> Result<i32, Failure<ReadKind>>
     ensures { Gives (λ x. x) result (spec.number_of low high word.now) }
 {
     match word {
@@ -57,10 +57,10 @@ pub fn number_of(low: i32, high: i32, word: &Lexeme) -> Result<i32, FormError>
             if low <= *n && *n <= high {
                 Ok(*n)
             } else {
-                Err(FormError::Kind(ReadKind::BadOperand))
+                Err(Failure::Fault(ReadKind::BadOperand))
             }
         }
-        _ => Err(FormError::Kind(ReadKind::BadOperand)),
+        _ => Err(Failure::Fault(ReadKind::BadOperand)),
     }
 }
 
@@ -81,7 +81,7 @@ pub fn is_word(bytes: &[u8], word: &Lexeme) -> bool
     }
 }
 
-pub fn copied(alloc: Global, bytes: &[u8]) -> Result<Name, FormError>
+pub fn copied(alloc: Global, bytes: &[u8]) -> Result<Name, Failure<ReadKind>>
     ensures { Gives (λ x. x) result (Ok bytes.now) }
 {
     Ok(Name::of(alloc, bytes)?)
@@ -106,11 +106,15 @@ fn is_said(flag: &[u8], words: &[Lexeme]) -> bool
 }
 
 /// The flags among these words, once each and in the order of the known ones.
-pub fn flags_of(alloc: Global, known: &[&[u8]], words: &[Lexeme]) -> Result<Vec<Name>, FormError>
+pub fn flags_of(
+    alloc: Global,
+    known: &[&[u8]],
+    words: &[Lexeme],
+) -> Result<Vec<Name>, Failure<ReadKind>>
     ensures { Gives (λ x. x.items) result (spec.flags_of (texts known.now) words.now) }
 {
     if !are_flags(known, words) {
-        return Err(FormError::Kind(ReadKind::BadOperand));
+        return Err(Failure::Fault(ReadKind::BadOperand));
     }
     let mut flags = Vec::new(alloc);
     let mut rest = known;

@@ -2,13 +2,13 @@
 use Rattle.std.proofs.Common.{◌≡◌, ℕ, Bool, true, false, not, ◌&&◌, ◌||◌, List, [], ◌∷◌, Option, Some, None, Result, Ok, Err, cond, refl, subst, ℤ}
 use Rattle.std.specs.Prelude.{bytes_eq, codes, pos}
 use Rattle.std.specs.List.{list_any}
+use Rattle.vm_model.specs.Failures.{◌>>=◌}
 use Rattle.jasmin_lines.specs.declared.fault.ReadKind.{ReadKind}
 use Rattle.jasmin_lines.specs.declared.fault.ReadKind.TheVariants.{NoClass, OutsideMethod, LabelTwice}
 use Rattle.jasmin_lines.specs.declared.form.Form.{Form}
 use Rattle.jasmin_lines.specs.declared.form.Form.TheVariants as form
 use Rattle.jasmin_lines.specs.declared.lexeme.Lexeme.{Lexeme}
 use Rattle.jasmin_lines.specs.declared.lexeme.Lexeme.TheVariants as lexeme
-use Rattle.jasmin_lines.specs.Faults.{◌>>=◌}
 use Rattle.jasmin_lines.specs.Lexemes.{PlainLine}
 use Rattle.jasmin_lines.specs.Words.{one, two, word_of, number_of, is_word, named, is_name, is_class_name, is_method_name, name_of, class_name_of, described}
 use Rattle.jasmin_lines.specs.Instructions.{instruction}

@@ -1,11 +1,11 @@
 -- The classes of a text, or its first line that breaks the grammar.
 use Rattle.std.specs.Prelude.{ℕ, if◌then◌else◌, List, [], ◌∷◌, fold, Result, Ok, Err}
+use Rattle.vm_model.specs.Failures.{◌>>=◌}
 use Rattle.jasmin_text.specs.declared.token.Token.{Token}
 use Rattle.jasmin_lines.specs.declared.fault.ReadKind.{ReadKind}
 use Rattle.jasmin_lines.specs.declared.fault.ReadKind.TheVariants.{NoSuper}
 use Rattle.jasmin_reader.specs.declared.fault.Refusal.{Refusal}
 use Rattle.jasmin_lines.specs.declared.form.Form.{Form}
-use Rattle.jasmin_lines.specs.Faults.{◌>>=◌}
 use Rattle.jasmin_lines.specs.Plain.{PlainClassText}
 use Rattle.jasmin_lines.specs.Lexemes.{PlainLine, lines_after}
 use Rattle.jasmin_reader.specs.Grammar.{PlainState, nothing_begun, next_state, lacks_super, form_among}

@@ -1,15 +1,15 @@
 // Which line may follow which.
 ghost use Rattle.std.specs.Prelude.{◌≡◌, ◌∷◌, [], OnOk, bytes_eq, Ok, true, false};
 ghost use Rattle.std.specs.List.{list_any};
-ghost use Rattle.jasmin_lines.specs.Faults.{Gives};
+ghost use Rattle.vm_model.specs.Failures.{Gives};
 ghost use Rattle.jasmin_reader.specs.Grammar as spec;
 ghost use Rattle.jasmin_reader.specs.Labels.{labels_in, are_new};
 
 use crate::labels::Labels;
-use jasmin_lines::{Form, FormError, Lexeme, Line, ReadKind, form_of, is_word};
+use jasmin_lines::{Form, Lexeme, Line, ReadKind, form_of, is_word};
 use std::alloc::Global;
 use std::marker::Model;
-use vm_model::{Name, NoMemory};
+use vm_model::{Failure, Name, NoMemory};
 
 /// What the lines so far have begun: a class, its super, a method, the limits and the labels of that method.
 #[derive(Debug, Drop)]
@@ -153,15 +153,20 @@ impl State {
 
     /// A line's form, where these lines follow, or the least of its faults.
     #[tactic(auto, unfolding(crate::specs::Grammar::form_among))]
-    pub fn form_among(&self, alloc: Global, line: &Line, lines: &[Line]) -> Result<Form, FormError>
+    pub fn form_among(
+        &self,
+        alloc: Global,
+        line: &Line,
+        lines: &[Line],
+    ) -> Result<Form, Failure<ReadKind>>
         ensures { Gives (λ x. x) result (spec.form_among self.now line.now lines.now) }
     {
         if !self.has_class && !may_stand_first(&line.words) {
-            return Err(FormError::Kind(ReadKind::NoClass));
+            return Err(Failure::Fault(ReadKind::NoClass));
         }
         let form = form_of(alloc, line.number, &line.words)?;
         match self.misplaced(lines, &form) {
-            Some(kind) => Err(FormError::Kind(kind)),
+            Some(kind) => Err(Failure::Fault(kind)),
             None => Ok(form),
         }
     }

@@ -8,9 +8,10 @@ ghost use Rattle.jasmin_reader.specs.Reading as spec;
 use crate::assembly::classes_of;
 use crate::fault::ReadFault;
 use crate::grammar::State;
-use jasmin_lines::{ClassText, Form, FormError, Line, ReadKind, lines_of};
+use jasmin_lines::{ClassText, Form, Line, ReadKind, lines_of};
 use jasmin_text::Token;
 use std::alloc::Global;
+use vm_model::Failure;
 
 /// The forms of the lines, or the first fault.
 #[tactic(auto, unfolding(crate::specs::Reading::forms_after))]
@@ -23,8 +24,8 @@ fn forms_of(alloc: Global, last: u32, lines: &[Line]) -> Result<Vec<Form>, ReadF
     while let [line, after @ ..] = rest {
         let form = match state.form_among(alloc, line, after) {
             Ok(form) => form,
-            Err(FormError::Memory) => return Err(ReadFault::NoMemory),
-            Err(FormError::Kind(kind)) => {
+            Err(Failure::Memory) => return Err(ReadFault::NoMemory),
+            Err(Failure::Fault(kind)) => {
                 return Err(ReadFault::At {
                     kind,
                     line: line.number,

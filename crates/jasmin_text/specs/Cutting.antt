@@ -1,24 +1,13 @@
 -- What a part of the reader answers: what the definition of the same part says, unless memory runs out.
 use Rattle.std.specs.Prelude.{◌≡◌, Result, Ok, Err}
 use Rattle.jasmin_text.specs.declared.fault.Broken.{Broken}
-use Rattle.jasmin_text.specs.declared.fault.CutError.{CutError}
-use Rattle.jasmin_text.specs.declared.fault.CutError.TheVariants as errors
 use Rattle.jasmin_text.specs.declared.fault.TextFault.{TextFault}
 use Rattle.jasmin_text.specs.declared.fault.TextFault.TheVariants as fault
 use Rattle.jasmin_text.specs.declared.piece.Piece.{Piece}
 use Rattle.jasmin_text.specs.declared.place.Place.{Place}
 use Rattle.jasmin_text.specs.Texts.{spoiled}
 
-abbrev pub Fails : {Y : Type 0} → CutError → Result Y Broken → Type 0
-Fails errors.Memory read = Unit {0}
-Fails (errors.Broken broken) read = read ≡ Err broken
-
--- seen by view
-abbrev pub Gives : {X Y : Type 0} → (X → Y) → Result X CutError → Result Y Broken → Type 0
-Gives view (Ok x) read = read ≡ Ok (view x)
-Gives view (Err e) read = Fails e read
-
--- the same, where the piece stands at a place
+-- what a part of the text says, where the piece stands at a place
 abbrev pub FailsAt : Place → TextFault → Result Piece Broken → Type 0
 FailsAt p fault.NoMemory read = Unit {0}
 FailsAt p (fault.At kind line column) read = (broken : Broken) × (read ≡ Err broken) × (record { kind = kind; line = line; column = column } ≡ spoiled p broken)

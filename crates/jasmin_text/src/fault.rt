@@ -1,11 +1,9 @@
 //! Why a text has no tokens.
 
-ghost use Rattle.jasmin_text.specs.declared.fault.CutError.TheVariants.{Memory};
 ghost use Rattle.jasmin_text.specs.declared.fault.TextFault.TheVariants.{NoMemory};
 ghost use Rattle.std.specs.Prelude.{◌≡◌};
 
 use std::alloc::{AllocError, AllocFailed};
-use vm_model::NoMemory;
 
 /// What is wrong with a text. Faults are met in the order of the bytes.
 #[derive(Clone, Copy, Debug, PartialEq, Eq)]
@@ -54,37 +52,6 @@ pub enum TextFault {
 pub struct Broken {
     pub kind: TextKind,
     pub before: u32,
-}
-
-/// Why a piece of the text wasn't cut.
-#[derive(Debug, Drop)]
-pub enum CutError {
-    Memory,
-    Broken(Broken),
-}
-
-impl From<AllocError> for CutError {
-    ghost from_gives = { λ _ e. e ≡ Memory };
-
-    fn from(_e: AllocError) -> CutError {
-        CutError::Memory
-    }
-}
-
-impl From<NoMemory> for CutError {
-    ghost from_gives = { λ _ e. e ≡ Memory };
-
-    fn from(_e: NoMemory) -> CutError {
-        CutError::Memory
-    }
-}
-
-impl<T: Drop> From<AllocFailed<T>> for CutError {
-    ghost from_gives = { λ _ e. e ≡ Memory };
-
-    fn from(_e: AllocFailed<T>) -> CutError {
-        CutError::Memory
-    }
 }
 
 impl From<AllocError> for TextFault {

@@ -1,11 +1,12 @@
 // Strings: what their bytes stand for.
 ghost use Rattle.std.specs.Prelude.{◌≡◌, ◌≤◌, true, false, length};
 ghost use Rattle.vm_model.specs.declared.limits.TheConstants.{MOST_TEXT_BYTES};
+ghost use Rattle.vm_model.specs.Failures.{Gives};
 ghost use Rattle.jasmin_text.specs.Pieces as spec;
-ghost use Rattle.jasmin_text.specs.Cutting.{Gives};
 
-use crate::fault::{Broken, CutError, TextKind};
+use crate::fault::{Broken, TextKind};
 use std::alloc::Global;
+use vm_model::Failure;
 
 /// What stands for itself in a string: the tab, and the bytes from the space to `~`.
 fn is_plain(b: u8) -> bool
@@ -79,7 +80,7 @@ fn turn_of(is_escape: bool, passed: u32, b: u8) -> Result<Turn, Broken>
 
 /// The text of a string whose opening quote comes right before these bytes, and how many bytes the string has with its
 /// quotes.
-pub fn string_at(alloc: Global, bytes: &[u8]) -> Result<(Vec<u8>, u32), CutError>
+pub fn string_at(alloc: Global, bytes: &[u8]) -> Result<(Vec<u8>, u32), Failure<Broken>>
     requires { length bytes.now ≤ MOST_TEXT_BYTES }
     ensures { Gives (λ x. (x.0.items, x.1)) result (spec.string_after false 1 bytes.now) }
 {
@@ -101,10 +102,10 @@ pub fn string_at(alloc: Global, bytes: &[u8]) -> Result<(Vec<u8>, u32), CutError
                 passed += 1;
                 rest = after;
             }
-            Err(broken) => return Err(CutError::Broken(broken)),
+            Err(broken) => return Err(Failure::Fault(broken)),
         }
     }
-    Err(CutError::Broken(Broken {
+    Err(Failure::Fault(Broken {
         kind: TextKind::OpenString,
         before: 0,
     }))

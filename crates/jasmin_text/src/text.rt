@@ -7,12 +7,13 @@ ghost use Rattle.jasmin_text.specs.Pieces.{piece_at};
 ghost use Rattle.jasmin_text.specs.Spans.{AreInOrder, IsOf};
 ghost use Rattle.jasmin_text.specs.Texts as spec;
 
-use crate::fault::{CutError, TextFault};
+use crate::fault::TextFault;
 use crate::piece::{Piece, piece_at};
 use crate::place::Place;
 use crate::token::{Token, TokenKind};
 use crate::words::{is_white, left_of_line};
 use std::alloc::Global;
+use vm_model::Failure;
 
 fn token_at(place: Place, piece: Piece) -> Token
     requires { place.offset + piece.length < 2 ^ 32 }
@@ -56,8 +57,8 @@ fn piece_there(alloc: Global, place: Place, bytes: &[u8]) -> Result<Piece, TextF
 {
     match piece_at(alloc, bytes) {
         Ok(piece) => Ok(piece),
-        Err(CutError::Memory) => Err(TextFault::NoMemory),
-        Err(CutError::Broken(broken)) => Err(TextFault::At {
+        Err(Failure::Memory) => Err(TextFault::NoMemory),
+        Err(Failure::Fault(broken)) => Err(TextFault::At {
             kind: broken.kind,
             line: place.line,
             column: place.column + broken.before,

@@ -7,6 +7,7 @@ use Rattle.std.proofs.lemmas.Bool.Decides.{nat_tests}
 use Rattle.vm_model.specs.declared.instr.Instr.{Instr}
 use Rattle.vm_model.specs.declared.instr.Instr.TheVariants as instr
 use Rattle.vm_model.specs.Program.{PlainProgram}
+use Rattle.vm_model.specs.Failures.{◌>>=◌, or_fault}
 use Rattle.jasmin_lines.specs.declared.class_text.Operand.{Operand}
 use Rattle.jasmin_lines.specs.declared.class_text.Operand.TheVariants as operand
 use Rattle.jasmin_lines.specs.Plain.{PlainLineText}
@@ -15,7 +16,6 @@ use Rattle.name_resolver.specs.declared.fault.LinkKind.{LinkKind}
 use Rattle.name_resolver.specs.declared.fault.LinkKind.TheVariants as kinds
 use Rattle.name_resolver.specs.declared.names.Names.{Names}
 use Rattle.name_resolver.specs.Index.{Rows, value_of}
-use Rattle.name_resolver.specs.Lines.{◌>>=◌, or_fault}
 use Rattle.built_in_classes.specs.Classes as built_in
 use Rattle.built_in_classes.specs.Classes.{has_constructor, has_text_constructor}
 use Rattle.name_resolver.specs.Words.{field_key}

@@ -5,6 +5,7 @@ use Rattle.std.specs.List.{list_any}
 use Rattle.std.proofs.lemmas.Bool.{false≢true}
 use Rattle.vm_model.specs.declared.instr.Instr.{Instr}
 use Rattle.vm_model.specs.declared.instr.Instr.TheVariants as instr
+use Rattle.vm_model.specs.Failures.{◌>>=◌, or_fault}
 use Rattle.jasmin_lines.specs.declared.class_text.Operand.{Operand}
 use Rattle.jasmin_lines.specs.declared.class_text.Operand.TheVariants as operand
 use Rattle.jasmin_lines.specs.Plain.{PlainClassText, PlainMethodText, PlainLineText}
@@ -15,7 +16,6 @@ use Rattle.name_resolver.specs.declared.names.Names.{Names}
 use Rattle.name_resolver.specs.Index.{Rows, value_of}
 use Rattle.name_resolver.specs.Words.{member}
 use Rattle.name_resolver.specs.Names.{names_of}
-use Rattle.name_resolver.specs.Lines.{◌>>=◌, or_fault}
 use Rattle.class_linker.specs.Bodies.{fault_in, labels_of}
 use Rattle.name_resolver.specs.Descriptors.{class_of, type_of, is_unknown, method_signature, in_signature}
 use Rattle.name_resolver.specs.Calls.{target_of, call, call_by, class_part, name_part, desc_part, is_out, field, field_by}

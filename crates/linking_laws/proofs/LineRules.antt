@@ -6,6 +6,7 @@ use Rattle.std.proofs.lemmas.Bool.{false≢true}
 use Rattle.std.proofs.lemmas.List.Folds.{list_any-append}
 use Rattle.vm_model.specs.declared.instr.Instr.{Instr}
 use Rattle.vm_model.specs.declared.instr.Instr.TheVariants as instr
+use Rattle.vm_model.specs.Failures.{◌>>=◌, or_fault}
 use Rattle.jasmin_lines.specs.Plain.{PlainClassText, PlainMethodText, PlainLineText}
 use Rattle.jasmin_lines.specs.Mnemonics as mnemonics
 use Rattle.name_resolver.specs.declared.calls.Target.{Target}
@@ -13,7 +14,6 @@ use Rattle.name_resolver.specs.declared.fault.LinkKind.{LinkKind}
 use Rattle.name_resolver.specs.declared.fault.LinkKind.TheVariants as kinds
 use Rattle.name_resolver.specs.Index.{value_of}
 use Rattle.name_resolver.specs.Names.{names_of}
-use Rattle.name_resolver.specs.Lines.{◌>>=◌, or_fault}
 use Rattle.class_linker.specs.Bodies.{fault_in, labels_of}
 use Rattle.name_resolver.specs.Descriptors.{class_of}
 use Rattle.name_resolver.specs.Calls.{known, class_or}

@@ -6,6 +6,7 @@ use Rattle.std.proofs.lemmas.Bool.{false≢true}
 use Rattle.std.proofs.lemmas.Slice.Eq.{bytes_eq-Decides}
 use Rattle.vm_model.specs.declared.instr.Instr.{Instr}
 use Rattle.vm_model.specs.declared.instr.Instr.TheVariants as instr
+use Rattle.vm_model.specs.Failures.{◌>>=◌, or_fault}
 use Rattle.built_in_classes.specs.Classes.{has_objects, has_constructor, has_text_constructor}
 use Rattle.jasmin_lines.specs.declared.class_text.Operand.{Operand}
 use Rattle.jasmin_lines.specs.declared.class_text.Operand.TheVariants as operand
@@ -16,7 +17,6 @@ use Rattle.name_resolver.specs.declared.fault.LinkKind.TheVariants as kinds
 use Rattle.name_resolver.specs.declared.names.Names.{Names}
 use Rattle.name_resolver.specs.Index.{Rows, value_of}
 use Rattle.name_resolver.specs.Words.{field_key, member}
-use Rattle.name_resolver.specs.Lines.{◌>>=◌, or_fault}
 use Rattle.name_resolver.specs.BuiltIn.{has_lock, first_some, of_lock, of_thread, of_stream, instance_member, constructor}
 use Rattle.name_resolver.specs.Descriptors.{class_of, type_of, method_signature, in_signature, is_unknown}
 use Rattle.name_resolver.specs.Calls.{is_thread_class, static_member, static_call, is_run, virtual_run, virtual_member, virtual_call, special_member, special_call, call_by, known, target, class_part, name_part, desc_part, target_of, call, is_out, read_static, to_slot, field_by, class_or, field_class, field}

@@ -4,6 +4,7 @@ use Rattle.std.specs.Prelude.{if◌then◌else◌, nat_lt, nat_le, length, is_so
 use Rattle.std.specs.List.{AllByRecursion}
 use Rattle.vm_model.specs.declared.instr.Instr.{Instr}
 use Rattle.vm_model.specs.declared.instr.Instr.TheVariants as instr
+use Rattle.vm_model.specs.Failures.{◌>>=◌, or_fault}
 use Rattle.jasmin_lines.specs.declared.class_text.Operand.{Operand}
 use Rattle.jasmin_lines.specs.declared.class_text.Operand.TheVariants as operand
 use Rattle.jasmin_lines.specs.declared.class_text.CatchText.{CatchText}
@@ -14,7 +15,6 @@ use Rattle.class_linker.specs.declared.fault.Refusal.{Refusal}
 use Rattle.name_resolver.specs.declared.names.Names.{Names}
 use Rattle.class_linker.specs.Faults.{noted, only_if}
 use Rattle.name_resolver.specs.Index.{Rows, value_of}
-use Rattle.name_resolver.specs.Lines.{◌>>=◌, or_fault}
 use Rattle.name_resolver.specs.Names.{next}
 use Rattle.class_linker.specs.Linked.{texted, linked_by, linked}
 use Rattle.class_linker.specs.Bodies.{PlainTexts, no_texts, added_text, with_operand, with_operands, with_lines, with_bodies, with_all, labels_of, fault_in, line_judged, code_judged, catches_judged, body_judged, methods_judged, bodies_judged}

@@ -4,10 +4,10 @@ use Rattle.std.specs.Prelude.{length}
 use Rattle.std.specs.List.{AllByRecursion}
 use Rattle.vm_model.specs.Program.{PlainMethod, PlainProgram, method_at}
 use Rattle.vm_model.specs.Plain.{IsWithinBounds}
+use Rattle.vm_model.specs.Failures.{◌>>=◌}
 use Rattle.jasmin_lines.specs.Plain.{PlainClassText, PlainMethodText}
 use Rattle.class_linker.specs.declared.fault.Refusal.{Refusal}
 use Rattle.name_resolver.specs.declared.names.Names.{Names}
-use Rattle.name_resolver.specs.Lines.{◌>>=◌}
 use Rattle.name_resolver.specs.Names.{names_of, no_counts, no_names}
 use Rattle.class_linker.specs.Judging.{classes_judged}
 use Rattle.class_linker.specs.Bodies.{PlainTexts, texts_of, bodies_judged}

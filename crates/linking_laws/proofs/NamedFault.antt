@@ -3,10 +3,10 @@ use Rattle.std.proofs.Common.{◌≡◌, ℕ, Bool, true, false, List, [], ◌�
 use Rattle.std.specs.Prelude.{◌≢◌, ◌↔◌, is_some, IsOk}
 use Rattle.std.proofs.lemmas.Bool.{false≢true}
 use Rattle.vm_model.specs.Program.{PlainProgram}
+use Rattle.vm_model.specs.Failures.{◌>>=◌}
 use Rattle.jasmin_lines.specs.Plain.{PlainClassText}
 use Rattle.class_linker.specs.declared.fault.Refusal.{Refusal}
 use Rattle.name_resolver.specs.declared.names.Names.{Names}
-use Rattle.name_resolver.specs.Lines.{◌>>=◌}
 use Rattle.name_resolver.specs.Names.{no_counts, names_of}
 use Rattle.class_linker.specs.Judging.{classes_judged}
 use Rattle.class_linker.specs.Bodies.{PlainTexts, texts_of, bodies_judged}

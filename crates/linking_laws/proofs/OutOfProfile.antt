@@ -6,6 +6,7 @@ use Rattle.std.proofs.lemmas.Bool.{false≢true}
 use Rattle.std.proofs.lemmas.Slice.Eq.{bytes_eq-Decides}
 use Rattle.vm_model.specs.declared.instr.Instr.{Instr}
 use Rattle.vm_model.specs.declared.instr.Instr.TheVariants as instr
+use Rattle.vm_model.specs.Failures.{◌>>=◌, or_fault}
 use Rattle.built_in_classes.specs.Classes.{BuiltInClass, built_in_classes, built_in_number, number_from, constructors_in, is_made, has_objects}
 use Rattle.jasmin_lines.specs.declared.class_text.Operand.{Operand}
 use Rattle.jasmin_lines.specs.declared.class_text.Operand.TheVariants as operand
@@ -19,7 +20,6 @@ use Rattle.name_resolver.specs.declared.fault.LinkKind.{LinkKind}
 use Rattle.name_resolver.specs.declared.fault.LinkKind.TheVariants as kinds
 use Rattle.name_resolver.specs.declared.names.Names.{Names}
 use Rattle.name_resolver.specs.Index.{Rows, value_of}
-use Rattle.name_resolver.specs.Lines.{◌>>=◌, or_fault}
 use Rattle.name_resolver.specs.Descriptors.{or_user, class_of, type_of, method_signature, in_signature, is_unknown}
 use Rattle.name_resolver.specs.Calls.{known, target, class_part, name_part, desc_part, target_of, call_by, call, is_out, class_or, field_class, field_by, field}
 use Rattle.class_linker.specs.Linked as linker

@@ -3,6 +3,7 @@
 use Rattle.std.proofs.Common.{◌≡◌, ℕ, zero, suc, ◌+◌, ◌-◌, ◌≤◌, Bool, true, false, List, [], ◌∷◌, ◌++◌, Option, Some, None, Result, Ok, Err, subst, arith, length-append}
 use Rattle.std.specs.Prelude.{length, flat_map, ◌&&◌, ◌==◌, if◌then◌else◌}
 use Rattle.vm_model.specs.declared.limits.TheConstants.{MOST_TEXT_BYTES}
+use Rattle.vm_model.specs.Failures.{◌>>=◌}
 use Rattle.jasmin_text.specs.declared.fault.Broken.{Broken}
 use Rattle.jasmin_text.specs.declared.piece.Piece.{Piece}
 use Rattle.jasmin_text.specs.declared.place.Place.{Place}
@@ -19,7 +20,6 @@ use Rattle.jasmin_lines.specs.declared.form.Form.{Form}
 use Rattle.jasmin_lines.specs.declared.form.Form.TheVariants as form
 use Rattle.jasmin_lines.specs.declared.lexeme.Lexeme.{Lexeme}
 use Rattle.jasmin_reader.specs.Assembly.{PlainParts, no_parts, with_form, parts_of, classes_of}
-use Rattle.jasmin_lines.specs.Faults.{◌>>=◌}
 use Rattle.jasmin_reader.specs.Grammar.{PlainState, nothing_begun, next_state, lacks_super, form_among}
 use Rattle.jasmin_lines.specs.Lexemes.{PlainLine, lexeme_of, filled, lines_after}
 use Rattle.jasmin_lines.specs.Plain.{PlainClassText}

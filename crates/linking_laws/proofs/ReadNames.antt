@@ -3,6 +3,7 @@ use Rattle.std.proofs.Common.{◌≡◌, ℕ, suc, ◌+◌, ◌<◌, Bool, true,
 use Rattle.std.specs.Prelude.{length, take, drop, not, ◌&&◌, ◌||◌, ◌==◌, if◌then◌else◌, position, ℤ, pos, unsigned_abs, bytes_eq, codes}
 use Rattle.std.specs.List.{AllByRecursion, list_any, position_or_len}
 use Rattle.std.proofs.lemmas.Bool.{false≢true}
+use Rattle.vm_model.specs.Failures.{◌>>=◌}
 use Rattle.jasmin_text.specs.declared.token.Token.{Token}
 use Rattle.jasmin_text.proofs.Skipping.{position-found}
 use Rattle.jasmin_lines.specs.declared.fault.ReadKind.{ReadKind}
@@ -12,7 +13,6 @@ use Rattle.jasmin_lines.specs.declared.form.Form.{Form}
 use Rattle.jasmin_lines.specs.declared.form.Form.TheVariants as form
 use Rattle.jasmin_lines.specs.declared.lexeme.Lexeme.{Lexeme}
 use Rattle.jasmin_lines.specs.declared.lexeme.Lexeme.TheVariants as lexeme
-use Rattle.jasmin_lines.specs.Faults.{◌>>=◌}
 use Rattle.jasmin_lines.specs.Plain.{PlainClassText}
 use Rattle.jasmin_lines.specs.Lexemes.{PlainLine, lines_after}
 use Rattle.jasmin_lines.specs.Words.{two, number_of, is_word, name_of, word_of, named, is_class_name, is_method_name, is_name, class_name_of, split_at, described, one}

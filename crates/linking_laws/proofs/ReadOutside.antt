@@ -1,6 +1,7 @@
 -- Which instructions that are read are out of the profile.
 use Rattle.std.proofs.Common.{◌≡◌, ℕ, Bool, true, false, List, [], ◌∷◌, Option, Some, None, Result, Ok, Err, refl, subst}
 use Rattle.std.specs.Prelude.{pos, negsuc, if◌then◌else◌, codes}
+use Rattle.vm_model.specs.Failures.{◌>>=◌, or_fault}
 use Rattle.jasmin_lines.specs.declared.class_text.Operand.TheVariants as operand
 use Rattle.jasmin_lines.specs.declared.fault.ReadKind.{ReadKind}
 use Rattle.jasmin_lines.specs.declared.fault.ReadKind.TheVariants.{BadMnemonic}
@@ -8,7 +9,6 @@ use Rattle.jasmin_lines.specs.declared.lexeme.Lexeme.{Lexeme}
 use Rattle.jasmin_lines.specs.declared.lexeme.Lexeme.TheVariants as lexeme
 use Rattle.jasmin_lines.specs.declared.mnemonic.Mnemonic.{Mnemonic}
 use Rattle.jasmin_lines.specs.declared.mnemonic.Mnemonic.TheVariants as mnemonic
-use Rattle.jasmin_lines.specs.Faults.{◌>>=◌, or_fault}
 use Rattle.jasmin_lines.specs.Mnemonics.{mnemonic_of}
 use Rattle.jasmin_lines.specs.Plain.{PlainClassText}
 use Rattle.jasmin_lines.specs.Said.{PlainSaid}

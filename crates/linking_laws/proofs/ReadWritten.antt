@@ -1,12 +1,12 @@
 -- The fields and the lines of classes that are read are written as they should be.
 use Rattle.std.proofs.Common.{◌≡◌, ℕ, true, List, [], ◌∷◌, Result, Ok, Err, subst}
 use Rattle.std.specs.List.{AllByRecursion}
+use Rattle.vm_model.specs.Failures.{◌>>=◌}
 use Rattle.jasmin_text.specs.declared.token.Token.{Token}
 use Rattle.jasmin_reader.specs.declared.fault.Refusal.{Refusal}
 use Rattle.jasmin_lines.specs.declared.form.Form.{Form}
 use Rattle.jasmin_lines.specs.declared.form.Form.TheVariants as form
 use Rattle.jasmin_reader.specs.Assembly.{PlainParts, no_parts, labelled_lines, with_form, parts_of, classes_of}
-use Rattle.jasmin_lines.specs.Faults.{◌>>=◌}
 use Rattle.jasmin_reader.specs.Grammar.{nothing_begun}
 use Rattle.jasmin_lines.specs.Lexemes.{lines_after}
 use Rattle.jasmin_lines.specs.Plain.{PlainClassText, PlainFieldText, PlainLineText, PlainMethodText}

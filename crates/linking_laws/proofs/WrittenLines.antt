@@ -3,6 +3,7 @@ use Rattle.std.proofs.Common.{◌≡◌, ℕ, Bool, true, false, List, [], ◌�
 use Rattle.std.specs.Prelude.{pos, negsuc, not, ◌||◌, if◌then◌else◌, bytes_eq}
 use Rattle.std.specs.List.{list_all, list_any}
 use Rattle.std.proofs.lemmas.Slice.Eq.{bytes_eq-Decides}
+use Rattle.vm_model.specs.Failures.{◌>>=◌, or_fault}
 use Rattle.jasmin_lines.specs.declared.class_text.Operand.TheVariants as operand
 use Rattle.jasmin_lines.specs.declared.fault.ReadKind.{ReadKind}
 use Rattle.jasmin_lines.specs.declared.fault.ReadKind.TheVariants.{BadMnemonic}
@@ -10,7 +11,6 @@ use Rattle.jasmin_lines.specs.declared.lexeme.Lexeme.{Lexeme}
 use Rattle.jasmin_lines.specs.declared.lexeme.Lexeme.TheVariants as lexeme
 use Rattle.jasmin_lines.specs.declared.mnemonic.Mnemonic.{Mnemonic}
 use Rattle.jasmin_lines.specs.declared.mnemonic.Mnemonic.TheVariants as mnemonic
-use Rattle.jasmin_lines.specs.Faults.{◌>>=◌, or_fault}
 use Rattle.jasmin_lines.specs.Tables.{row_of}
 use Rattle.jasmin_lines.specs.Mnemonics.{table, mnemonic_of}
 use Rattle.jasmin_lines.specs.Said.{PlainSaid}

@@ -2,12 +2,12 @@
 use Rattle.std.specs.Prelude.{ℕ, Bool, not, ◌&&◌, ◌||◌, if◌then◌else◌, ◌==◌, List, ◌++◌, codes, bytes_eq, is_some, Option, Some, None, Result, Ok, Err}
 use Rattle.vm_model.specs.declared.instr.Instr.{Instr}
 use Rattle.vm_model.specs.declared.instr.Instr.TheVariants as instr
+use Rattle.vm_model.specs.Failures.{◌>>=◌, or_fault}
 use Rattle.built_in_classes.specs.declared.numbers.TheConstants.{THREAD}
 use Rattle.name_resolver.specs.declared.calls.Target.{Target}
 use Rattle.name_resolver.specs.declared.fault.LinkKind.{LinkKind}
 use Rattle.name_resolver.specs.declared.fault.LinkKind.TheVariants.{UnknownClass, UnknownField, UnknownMethod}
 use Rattle.name_resolver.specs.declared.names.Names.{Names}
-use Rattle.name_resolver.specs.Lines.{◌>>=◌, or_fault}
 use Rattle.name_resolver.specs.Index.{value_of}
 use Rattle.name_resolver.specs.Words.{described, member, field_key, is_init}
 use Rattle.name_resolver.specs.BuiltIn.{instance_member, constructor, first_some}

@@ -5,5 +5,4 @@ pub mod Words
 pub mod BuiltIn
 pub mod Descriptors
 pub mod Names
-pub mod Lines
 pub mod Calls

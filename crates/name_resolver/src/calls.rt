@@ -1,21 +1,21 @@
 // Members of classes, as instructions name them.
 ghost use Rattle.std.specs.Prelude.{◌≡◌, IfOk, Ok, is_some};
 ghost use Rattle.vm_model.specs.declared.instr.Instr.TheVariants as instr;
+ghost use Rattle.vm_model.specs.Failures.{Gives, or_fault};
 ghost use Rattle.name_resolver.specs.Calls as spec;
-ghost use Rattle.name_resolver.specs.Lines.{Gives, or_fault};
 ghost use Rattle.name_resolver.specs.Index.{value_of};
 ghost use Rattle.name_resolver.specs.declared.fault.LinkKind.TheVariants.{UnknownClass};
 ghost use Rattle.name_resolver.specs.Descriptors.{class_of, in_signature, is_unknown, method_signature};
 
 use crate::built_in::{constructor, first_some, instance_member};
 use crate::descriptors::{class_of, is_unknown, method_signature, type_of};
-use crate::fault::{LineError, LinkKind};
+use crate::fault::LinkKind;
 use crate::names::Names;
 use crate::words::{described, field_key, member};
 use built_in_classes::THREAD;
 use jasmin_lines::is;
 use std::alloc::Global;
-use vm_model::{Instr, Name};
+use vm_model::{Failure, Instr, Name};
 
 /// A method that an instruction calls: its word with the class, its name with the descriptor, and the class's number.
 #[derive(Debug, Drop)]
@@ -145,22 +145,22 @@ fn call_by(names: &Names, thread_run: u32, mnemonic: &[u8], target: &Target) -> 
     }
 }
 
-fn known(is_unknown: bool) -> Result<(), LineError>
+fn known(is_unknown: bool) -> Result<(), Failure<LinkKind>>
     ensures { Gives (λ x. x) result (spec.known is_unknown) }
 {
     if is_unknown {
-        Err(LineError::Kind(LinkKind::UnknownClass))
+        Err(Failure::Fault(LinkKind::UnknownClass))
     } else {
         Ok(())
     }
 }
 
-fn class_or_fault(names: &Names, class: &[u8]) -> Result<u32, LineError>
+fn class_or_fault(names: &Names, class: &[u8]) -> Result<u32, Failure<LinkKind>>
     ensures { Gives (λ x. x) result (or_fault UnknownClass (class_of names.now.classes class.now)) }
 {
     match class_of(&names.classes, class) {
         Some(number) => Ok(number),
-        None => Err(LineError::Kind(LinkKind::UnknownClass)),
+        None => Err(Failure::Fault(LinkKind::UnknownClass)),
     }
 }
 
@@ -172,7 +172,7 @@ fn target_at(
     name: &[u8],
     desc: &[u8],
     number: u32,
-) -> Result<Target, LineError>
+) -> Result<Target, Failure<LinkKind>>
     ensures { Gives (λ x. x) result (Ok (spec.target names.now word.now class.now name.now desc.now number)) }
 {
     let mut member = Vec::from_slice(alloc, name)?;
@@ -194,7 +194,12 @@ fn parts(word: &[u8]) -> (&[u8], &[u8], &[u8])
     (class, name, desc)
 }
 
-fn has_unknown(alloc: Global, names: &Names, name: &[u8], desc: &[u8]) -> Result<bool, LineError>
+fn has_unknown(
+    alloc: Global,
+    names: &Names,
+    name: &[u8],
+    desc: &[u8],
+) -> Result<bool, Failure<LinkKind>>
     ensures { Gives (λ x. x) result (Ok (in_signature is_unknown (method_signature names.now.classes name.now desc.now))) }
 {
     let signature = method_signature(alloc, &names.classes, name, desc)?;
@@ -203,7 +208,7 @@ fn has_unknown(alloc: Global, names: &Names, name: &[u8], desc: &[u8]) -> Result
 
 /// The target of a call, whose class and classes in the descriptor are known.
 #[tactic(auto, unfolding(crate::specs::Calls::target_of))]
-fn target_of(alloc: Global, names: &Names, word: &[u8]) -> Result<Target, LineError>
+fn target_of(alloc: Global, names: &Names, word: &[u8]) -> Result<Target, Failure<LinkKind>>
     ensures { Gives (λ x. x) result (spec.target_of names.now word.now) }
 {
     let (class, name, desc) = parts(word);
@@ -222,13 +227,13 @@ pub fn call(
     thread_run: u32,
     mnemonic: &[u8],
     word: &[u8],
-) -> Result<Instr, LineError>
+) -> Result<Instr, Failure<LinkKind>>
     ensures { Gives (λ x. x) result (spec.call names.now thread_run mnemonic.now word.now) }
 {
     let target = target_of(alloc, names, word)?;
     match call_by(names, thread_run, mnemonic, &target) {
         Some(instr) => Ok(instr),
-        None => Err(LineError::Kind(LinkKind::UnknownMethod)),
+        None => Err(Failure::Fault(LinkKind::UnknownMethod)),
     }
 }
 
@@ -289,7 +294,7 @@ fn field_by(
     word: &[u8],
     desc: &[u8],
     class: u32,
-) -> Result<Option<Instr>, LineError>
+) -> Result<Option<Instr>, Failure<LinkKind>>
     ensures { Gives (λ x. x) result (Ok (spec.field_by names.now mnemonic.now word.now desc.now class)) }
 {
     let key = field_key(alloc, word, desc)?;
@@ -304,7 +309,7 @@ fn field_by(
     }
 }
 
-fn field_class(names: &Names, word: &[u8], desc: &[u8]) -> Result<u32, LineError>
+fn field_class(names: &Names, word: &[u8], desc: &[u8]) -> Result<u32, Failure<LinkKind>>
     ensures { Gives (λ x. x) result (spec.field_class names.now word.now desc.now) }
 {
     let (class, _) = member(word);
@@ -314,7 +319,7 @@ fn field_class(names: &Names, word: &[u8], desc: &[u8]) -> Result<u32, LineError
             if is_out(word, desc) {
                 Ok(0)
             } else {
-                Err(LineError::Kind(LinkKind::UnknownClass))
+                Err(Failure::Fault(LinkKind::UnknownClass))
             }
         }
     }
@@ -328,13 +333,13 @@ pub fn field(
     mnemonic: &[u8],
     word: &[u8],
     desc: &[u8],
-) -> Result<Instr, LineError>
+) -> Result<Instr, Failure<LinkKind>>
     ensures { Gives (λ x. x) result (spec.field names.now mnemonic.now word.now desc.now) }
 {
     let class = field_class(names, word, desc)?;
     known(is_unknown(type_of(&names.classes, desc)))?;
     match field_by(alloc, names, mnemonic, word, desc, class)? {
         Some(instr) => Ok(instr),
-        None => Err(LineError::Kind(LinkKind::UnknownField)),
+        None => Err(Failure::Fault(LinkKind::UnknownField)),
     }
 }

@@ -1,9 +1,6 @@
 //! Why a name stands for nothing, or a line is wrong.
 
-ghost use Rattle.name_resolver.specs.declared.fault.LineError.TheVariants.{Memory};
 ghost use Rattle.std.specs.Prelude.{◌≡◌};
-
-use std::alloc::{AllocError, AllocFailed};
 
 /// What is wrong with a line of a text whose grammar is right. Of several faults of one line the one with the least number counts.
 #[derive(Clone, Copy, Debug, PartialEq, Eq)]
@@ -46,36 +43,5 @@ impl LinkKind {
             LinkKind::TooMany => 8,
             LinkKind::OutOfProfile => 9,
         }
-    }
-}
-
-/// Why a line of a body gave no instruction.
-#[derive(Debug, Drop)]
-pub enum LineError {
-    Memory,
-    Kind(LinkKind),
-}
-
-impl From<AllocError> for LineError {
-    ghost from_gives = { λ _ e. e ≡ Memory };
-
-    fn from(_e: AllocError) -> LineError {
-        LineError::Memory
-    }
-}
-
-impl From<vm_model::NoMemory> for LineError {
-    ghost from_gives = { λ _ e. e ≡ Memory };
-
-    fn from(_e: vm_model::NoMemory) -> LineError {
-        LineError::Memory
-    }
-}
-
-impl<T: Drop> From<AllocFailed<T>> for LineError {
-    ghost from_gives = { λ _ e. e ≡ Memory };
-
-    fn from(_e: AllocFailed<T>) -> LineError {
-        LineError::Memory
     }
 }

@@ -15,7 +15,7 @@ pub use calls::{call, field};
 pub use descriptors::{
     Signature, Typed, class_of, is_bad, is_outside, is_unknown, kind_of, method_signature, type_of,
 };
-pub use fault::{LineError, LinkKind};
+pub use fault::LinkKind;
 pub use index::Index;
 pub use names::{Counts, Names, is_named, is_static, is_thread, names_of, next};
 pub use words::{field_word, has, has_foreign_flag, method_key};

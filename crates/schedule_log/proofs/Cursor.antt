@@ -3,12 +3,13 @@ use Rattle.std.proofs.Common.{◌≡◌, ℕ, zero, suc, ◌+◌, ◌<◌, ◌�
 use Rattle.std.specs.List.{AllByRecursion, list_any}
 use Rattle.std.proofs.lemmas.Bool.{cases_lt, lt-ltb, le-ltb}
 use Rattle.std.proofs.lemmas.List.{take_more}
+use Rattle.vm_model.specs.Failures.{◌>>=◌}
 use Rattle.schedule_log.specs.declared.interval.Interval.{Interval}
 use Rattle.schedule_log.specs.declared.fault.Refusal.{Refusal}
 use Rattle.schedule_log.specs.declared.fault.LogKind.TheVariants.{NotMaximal}
 use Rattle.schedule_log.specs.Ordered.{ApartFrom}
 use Rattle.schedule_log.specs.Logs.{put, put_all}
-use Rattle.schedule_log.specs.Reading.{◌>>=◌, refuse, number_at, interval_at, intervals_at, thread_at}
+use Rattle.schedule_log.specs.Reading.{refuse, number_at, interval_at, intervals_at, thread_at}
 use Rattle.schedule_log.specs.Intervals.{shares}
 use Rattle.schedule_log.proofs.Fields.{bind_ok, passed, ok_is}
 use Rattle.schedule_log.proofs.Placed.{none_behind, shares_none, put_apart}

@@ -1,11 +1,12 @@
 -- A number that is read is the number that was written, and what was written is read again.
 use Rattle.std.proofs.Common.{◌≡◌, ℕ, suc, ◌+◌, ◌-◌, ◌*◌, ◌/◌, ◌%◌, ◌<◌, ◌≤◌, Bool, true, false, cond, eqb, ltb, ◌||◌, List, [], ◌∷◌, ◌++◌, length, get_or, Result, Ok, Err, refl, sym, ap, subst, ◌∙◌, append_assoc, ◌⊎◌, inl, inr, arith}
 use Rattle.std.proofs.lemmas.Bool.{cases_lt, lt-ltb, le-ltb, ltb-true, ltb-false, eqb-false, ne_eqb}
+use Rattle.vm_model.specs.Failures.{◌>>=◌}
 use Rattle.schedule_log.specs.declared.fault.LogKind.{LogKind}
 use Rattle.schedule_log.specs.declared.fault.LogKind.TheVariants.{Limit, LongSpelling}
 use Rattle.schedule_log.specs.declared.fault.Refusal.{Refusal}
 use Rattle.schedule_log.specs.Spelling.{leb128}
-use Rattle.schedule_log.specs.Reading.{◌>>=◌, groups_at, in_range, number_at}
+use Rattle.schedule_log.specs.Reading.{groups_at, in_range, number_at}
 use Rattle.schedule_log.proofs.Numbers.{number_small, number_more}
 
 abbrev pub IsBytes : List ℕ → Type 0

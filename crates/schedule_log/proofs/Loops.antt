@@ -2,12 +2,12 @@
 use Rattle.std.proofs.Common.{◌≡◌, ℕ, zero, suc, ◌+◌, ◌-◌, ◌*◌, ◌^◌, ◌<◌, ◌≤◌, cond, eqb, List, Result, Ok, Err, refl, sym, ap, ◌∙◌, eq-eqb, arith}
 use Rattle.std.proofs.lemmas.Bool.{ne_eqb}
 use Rattle.std.proofs.Math.Nat.{pow-suc}
+use Rattle.vm_model.specs.Failures.{Fails}
 use Rattle.schedule_log.specs.declared.interval.Interval.{Interval}
 use Rattle.schedule_log.specs.declared.fault.Refusal.{Refusal}
-use Rattle.schedule_log.specs.declared.fault.ReadError.{ReadError}
-use Rattle.schedule_log.specs.declared.fault.ReadError.TheVariants as errors
+use Rattle.vm_model.specs.declared.memory.Failure.{Failure}
+use Rattle.vm_model.specs.declared.memory.Failure.TheVariants as failure
 use Rattle.schedule_log.specs.Logs.{put}
-use Rattle.schedule_log.specs.Readers.{Fails}
 use Rattle.schedule_log.specs.Reading.{interval_at, intervals_at, thread_at, threads_at}
 
 -- ---- powers of 128
@@ -37,11 +37,11 @@ intervals_go_on count k budget t next placed bytes i after total lt h so_far =
     let one : intervals_at (count - k) budget t next placed bytes ≡ intervals_at (count - (k + 1)) budget t (i.last + 1) (put i placed) after = rw (e, h) refl in
     sym one ∙ so_far
 
-pub intervals_end : (e : ReadError) (count k budget t next : ℕ) (placed : List Interval) (bytes : List ℕ) (total : Result (List Interval × List ℕ) Refusal) → k < count → Fails e (interval_at budget t next placed bytes)
+pub intervals_end : (e : (Failure Refusal)) (count k budget t next : ℕ) (placed : List Interval) (bytes : List ℕ) (total : Result (List Interval × List ℕ) Refusal) → k < count → Fails e (interval_at budget t next placed bytes)
     → intervals_at (count - k) budget t next placed bytes ≡ total → Fails e total
 unfolding intervals_at
-intervals_end errors.Memory count k budget t next placed bytes total lt h so_far = tt
-intervals_end (errors.Refused f) count k budget t next placed bytes total lt h so_far =
+intervals_end failure.Memory count k budget t next placed bytes total lt h so_far = tt
+intervals_end (failure.Fault f) count k budget t next placed bytes total lt h so_far =
     let e : count - k ≡ suc (count - (k + 1)) = omega arith in
     let one : intervals_at (count - k) budget t next placed bytes ≡ Err f = rw (e, h) refl in
     sym so_far ∙ one
@@ -63,11 +63,11 @@ threads_go_on count k budget least placed bytes after rest total lt l h so_far =
     let one : threads_at (count - k) budget k placed bytes ≡ threads_at (count - (k + 1)) budget (k + 1) after rest = rw (e, ← l, h) refl in
     sym one ∙ so_far
 
-pub threads_end : (e : ReadError) (count k budget least : ℕ) (placed : List Interval) (bytes : List ℕ) (total : Result (List Interval × List ℕ) Refusal) → k < count → least ≡ cond (eqb (count - (k + 1)) 0) 1 0 → Fails e (thread_at budget k least placed bytes)
+pub threads_end : (e : (Failure Refusal)) (count k budget least : ℕ) (placed : List Interval) (bytes : List ℕ) (total : Result (List Interval × List ℕ) Refusal) → k < count → least ≡ cond (eqb (count - (k + 1)) 0) 1 0 → Fails e (thread_at budget k least placed bytes)
     → threads_at (count - k) budget k placed bytes ≡ total → Fails e total
 unfolding threads_at
-threads_end errors.Memory count k budget least placed bytes total lt l h so_far = tt
-threads_end (errors.Refused f) count k budget least placed bytes total lt l h so_far =
+threads_end failure.Memory count k budget least placed bytes total lt l h so_far = tt
+threads_end (failure.Fault f) count k budget least placed bytes total lt l h so_far =
     let e : count - k ≡ suc (count - (k + 1)) = omega arith in
     let one : threads_at (count - k) budget k placed bytes ≡ Err f = rw (e, ← l, h) refl in
     sym so_far ∙ one

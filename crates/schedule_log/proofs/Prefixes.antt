@@ -2,6 +2,7 @@
 use Rattle.std.proofs.Common.{◌≡◌, ℕ, zero, suc, ◌+◌, ◌-◌, ◌*◌, ◌<◌, Bool, true, false, cond, eqb, ltb, leb, ◌&&◌, ◌||◌, List, [], ◌∷◌, ◌++◌, length, take, drop, Result, Ok, Err, refl, sym, ap, ◌∙◌, ◌⊎◌, inl, inr, arith}
 use Rattle.std.specs.List.{list_any}
 use Rattle.std.proofs.lemmas.List.{take-append-drop, length-take, length-drop, length-append}
+use Rattle.vm_model.specs.Failures.{◌>>=◌}
 use Rattle.schedule_log.specs.declared.interval.Interval.{Interval}
 use Rattle.schedule_log.specs.declared.fault.LogKind.TheVariants.{Magic, Version, Short, Limit}
 use Rattle.schedule_log.specs.declared.fault.LogKind.{LogKind}
@@ -10,7 +11,7 @@ use Rattle.schedule_log.specs.declared.fault.Refusal.{Refusal}
 use Rattle.schedule_log.specs.Intervals.{clock_count, shares}
 use Rattle.schedule_log.specs.Logs.{PlainLog, IsLawful, put}
 use Rattle.schedule_log.specs.Spelling.{spelling}
-use Rattle.schedule_log.specs.Reading.{◌>>=◌, refuse, byte_at, head_at, groups_at, in_range, number_at, interval_at, intervals_at, thread_at, threads_at, has_gap, gapless_at, end_at, nothing_at, tail_at, log_at, with_offset, read_log}
+use Rattle.schedule_log.specs.Reading.{refuse, byte_at, head_at, groups_at, in_range, number_at, interval_at, intervals_at, thread_at, threads_at, has_gap, gapless_at, end_at, nothing_at, tail_at, log_at, with_offset, read_log}
 use Rattle.schedule_log.proofs.Fields.{bind_ok, chosen, passed, done, ok_is}
 use Rattle.schedule_log.proofs.Spelled.{log_again}
 

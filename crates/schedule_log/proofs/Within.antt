@@ -1,12 +1,13 @@
 -- A refusal stands within the bytes.
 use Rattle.std.proofs.Common.{◌≡◌, ℕ, zero, suc, ◌+◌, ◌-◌, ◌*◌, ◌≤◌, Bool, true, false, cond, eqb, ltb, leb, ◌&&◌, ◌||◌, List, [], ◌∷◌, length, Result, Ok, Err, subst, arith}
 use Rattle.std.specs.List.{list_any}
+use Rattle.vm_model.specs.Failures.{◌>>=◌}
 use Rattle.schedule_log.specs.declared.interval.Interval.{Interval}
 use Rattle.schedule_log.specs.declared.fault.LogKind.{LogKind}
 use Rattle.schedule_log.specs.declared.fault.LogKind.TheVariants.{Magic, Version, Short, LongSpelling, Overlap, Gap, NotMaximal, Limit, Trailing, BadEnd}
 use Rattle.schedule_log.specs.declared.fault.Refusal.{Refusal}
 use Rattle.schedule_log.specs.Logs.{PlainLog, put}
-use Rattle.schedule_log.specs.Reading.{◌>>=◌, refuse, byte_at, head_at, groups_at, left_of, in_range, number_at, interval_at, intervals_at, thread_at, threads_at, has_gap, gapless_at, end_at, nothing_at, tail_at, log_at}
+use Rattle.schedule_log.specs.Reading.{refuse, byte_at, head_at, groups_at, left_of, in_range, number_at, interval_at, intervals_at, thread_at, threads_at, has_gap, gapless_at, end_at, nothing_at, tail_at, log_at}
 use Rattle.schedule_log.specs.Intervals.{shares, clock_count}
 
 -- the error's place and the rest are within so many bytes

@@ -5,6 +5,7 @@ use Rattle.std.specs.List.{list_any}
 use Rattle.vm_model.specs.declared.limits.TheConstants.{MOST_EVENTS, MOST_THREADS}
 use Rattle.vm_model.specs.declared.ends.EndKind.{EndKind}
 use Rattle.vm_model.specs.declared.ends.EndKind.TheVariants as ends
+use Rattle.vm_model.specs.Failures.{◌>>=◌}
 use Rattle.schedule_log.specs.declared.interval.Interval.{Interval}
 use Rattle.schedule_log.specs.declared.fault.LogKind.{LogKind}
 use Rattle.schedule_log.specs.declared.fault.LogKind.TheVariants.{Magic, Version, Short, LongSpelling, Overlap, Gap, NotMaximal, Limit, Trailing, BadEnd}
@@ -13,11 +14,6 @@ use Rattle.schedule_log.specs.declared.fault.LogFault.TheVariants as answers
 use Rattle.schedule_log.specs.declared.fault.Refusal.{Refusal}
 use Rattle.schedule_log.specs.Intervals.{numbers, clock_count, holds, shares}
 use Rattle.schedule_log.specs.Logs.{PlainLog, put}
-
-infixl 10 ◌>>=◌
-abbrev pub ◌>>=◌ : {E A B : Type 0} → Result A E → (A → Result B E) → Result B E
-(Ok x) >>= f = f x
-(Err e) >>= f = Err e
 
 abbrev pub refuse : {A : Type 0} → LogKind → List ℕ → Result A Refusal
 refuse kind bytes = Err (record { kind = kind; left = length bytes })

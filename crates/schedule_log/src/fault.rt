@@ -1,10 +1,6 @@
 //! Why the bytes of a file spell no log.
 
-ghost use Rattle.schedule_log.specs.declared.fault.ReadError.TheVariants.{Memory};
 ghost use Rattle.std.specs.Prelude.{◌≡◌};
-
-use std::alloc::{AllocError, AllocFailed};
-use vm_model::NoMemory;
 
 /// What is wrong with a file that should be a log. Kinds are judged while the bytes are read from left to right.
 #[derive(Clone, Copy, Debug, PartialEq, Eq)]
@@ -69,35 +65,4 @@ pub enum LogFault {
 pub struct Refusal {
     pub kind: LogKind,
     pub left: usize,
-}
-
-/// Why a part of the bytes wasn't read.
-#[derive(Debug, Drop)]
-pub enum ReadError {
-    Memory,
-    Refused(Refusal),
-}
-
-impl From<AllocError> for ReadError {
-    ghost from_gives = { λ _ e. e ≡ Memory };
-
-    fn from(_e: AllocError) -> ReadError {
-        ReadError::Memory
-    }
-}
-
-impl From<NoMemory> for ReadError {
-    ghost from_gives = { λ _ e. e ≡ Memory };
-
-    fn from(_e: NoMemory) -> ReadError {
-        ReadError::Memory
-    }
-}
-
-impl<T: Drop> From<AllocFailed<T>> for ReadError {
-    ghost from_gives = { λ _ e. e ≡ Memory };
-
-    fn from(_e: AllocFailed<T>) -> ReadError {
-        ReadError::Memory
-    }
 }

@@ -1,31 +1,32 @@
 ghost use Rattle.std.specs.Prelude.{[], take, ◌≡◌, ◌+◌, ◌<◌, ◌≤◌, ◌^◌, length, IfOk, Ok, Result};
 ghost use Rattle.std.specs.List.{AllByRecursion};
+ghost use Rattle.vm_model.specs.Failures.{Gives};
 ghost use Rattle.schedule_log.specs.declared.interval.Interval.{Interval};
 ghost use Rattle.schedule_log.specs.declared.fault.Refusal.{Refusal};
 ghost use Rattle.schedule_log.specs.Ordered.{ApartFrom, ContiguousFrom, is_contiguous_from};
 ghost use Rattle.schedule_log.specs.Logs.{put_all, PlainLog};
 ghost use Rattle.schedule_log.specs.Spelling.{Spells};
 ghost use Rattle.schedule_log.specs.Faults.{IsUnlessNoMemory};
-ghost use Rattle.schedule_log.specs.Readers.{Gives, RawGives};
+ghost use Rattle.schedule_log.specs.Readers.{RawGives};
 ghost use Rattle.schedule_log.specs.Reading.{byte_at, head_at, groups_at, number_at, interval_at, intervals_at, thread_at, threads_at, gapless_at, end_at, tail_at, log_at, read_log};
 
-use crate::fault::{LogFault, LogKind, ReadError, Refusal};
+use crate::fault::{LogFault, LogKind, Refusal};
 use crate::interval::Interval;
 use crate::log::Log;
 use crate::placing::{events_of, is_taken, merged, place_of};
 use std::alloc::Global;
-use vm_model::{EndKind, MOST_EVENTS, MOST_THREADS};
+use vm_model::{EndKind, Failure, MOST_EVENTS, MOST_THREADS};
 
-fn refusal(kind: LogKind, bytes: &[u8]) -> ReadError
-    ensures { result ≡ ReadError.Refused (record { kind = kind; left = length bytes.now }) }
+fn refusal(kind: LogKind, bytes: &[u8]) -> Failure<Refusal>
+    ensures { result ≡ Failure.Fault (record { kind = kind; left = length bytes.now }) }
 {
-    ReadError::Refused(Refusal {
+    Failure::Fault(Refusal {
         kind,
         left: bytes.len(),
     })
 }
 
-fn byte_of(kind: LogKind, wanted: u8, bytes: &[u8]) -> Result<&[u8], ReadError>
+fn byte_of(kind: LogKind, wanted: u8, bytes: &[u8]) -> Result<&[u8], Failure<Refusal>>
     ensures { Gives (λ x. x.now) result (byte_at kind wanted bytes.now) }
 {
     match bytes {
@@ -41,7 +42,7 @@ fn byte_of(kind: LogKind, wanted: u8, bytes: &[u8]) -> Result<&[u8], ReadError>
 }
 
 #[tactic(auto, unfolding(crate::specs::Reading::head_at))]
-fn head_of(bytes: &[u8]) -> Result<&[u8], ReadError>
+fn head_of(bytes: &[u8]) -> Result<&[u8], Failure<Refusal>>
     ensures { Gives (λ x. x.now) result (head_at bytes.now) }
 {
     let rest = byte_of(LogKind::Magic, 0x44, bytes)?;
@@ -76,12 +77,12 @@ fn groups_of(more: u8, bytes: &[u8]) -> Result<(u64, &[u8]), LogKind>
 }
 
 #[tactic(auto, unfolding(crate::specs::Reading::number_at))]
-fn number_of(low: u64, high: u64, bytes: &[u8]) -> Result<(u64, &[u8]), ReadError>
+fn number_of(low: u64, high: u64, bytes: &[u8]) -> Result<(u64, &[u8]), Failure<Refusal>>
     ensures read { Gives (λ x. (x.0, x.1.now)) result (number_at low high bytes.now) }
     ensures bound { IfOk result (λ x. x.0 ≤ high) }
 {
     match groups_of(4, bytes) {
-        Err(LogKind::Short) => Err(ReadError::Refused(Refusal {
+        Err(LogKind::Short) => Err(Failure::Fault(Refusal {
             kind: LogKind::Short,
             left: 0,
         })),
@@ -103,7 +104,7 @@ fn interval_of<'a>(
     placed: &[Interval],
     at: usize,
     bytes: &'a [u8],
-) -> Result<(Interval, usize, &'a [u8]), ReadError>
+) -> Result<(Interval, usize, &'a [u8]), Failure<Refusal>>
     requires low { next ≤ MOST_EVENTS }
     requires apart { ApartFrom 0 placed.now }
     requires within { at ≤ length placed.now }
@@ -144,7 +145,7 @@ fn intervals_of<'a>(
     thread: u32,
     placed: &[Interval],
     bytes: &'a [u8],
-) -> Result<(Vec<Interval>, &'a [u8]), ReadError>
+) -> Result<(Vec<Interval>, &'a [u8]), Failure<Refusal>>
     requires low { budget ≤ MOST_EVENTS }
     requires apart { ApartFrom 0 placed.now }
     ensures read { Gives (λ x. (put_all placed.now x.0.items, x.1.now)) result (intervals_at count budget thread 0 placed.now bytes.now) }
@@ -172,7 +173,7 @@ fn thread_of<'a>(
     least: u64,
     placed: &[Interval],
     bytes: &'a [u8],
-) -> Result<(Vec<Interval>, &'a [u8]), ReadError>
+) -> Result<(Vec<Interval>, &'a [u8]), Failure<Refusal>>
     requires low { budget ≤ MOST_EVENTS }
     requires apart { ApartFrom 0 placed.now }
     ensures { Gives (λ x. (x.0.items, x.1.now)) result (thread_at budget thread least placed.now bytes.now) }
@@ -187,7 +188,7 @@ fn threads_of(
     count: u32,
     budget: u64,
     bytes: &[u8],
-) -> Result<(Vec<Interval>, &[u8]), ReadError>
+) -> Result<(Vec<Interval>, &[u8]), Failure<Refusal>>
     requires { budget ≤ MOST_EVENTS }
     ensures { Gives (λ x. (x.0.items, x.1.now)) result (threads_at count budget 0 [] bytes.now) }
 {
@@ -218,7 +219,7 @@ fn is_contiguous(placed: &[Interval]) -> bool
 }
 
 #[tactic(auto, unfolding(crate::specs::Reading::gapless_at))]
-fn gapless_of<'a>(placed: &[Interval], bytes: &'a [u8]) -> Result<&'a [u8], ReadError>
+fn gapless_of<'a>(placed: &[Interval], bytes: &'a [u8]) -> Result<&'a [u8], Failure<Refusal>>
     requires apart { ApartFrom 0 placed.now }
     requires low { AllByRecursion (λ (i : Interval). i.last < MOST_EVENTS) placed.now }
     ensures read { Gives (λ x. x.now) result (gapless_at placed.now bytes.now) }
@@ -231,7 +232,7 @@ fn gapless_of<'a>(placed: &[Interval], bytes: &'a [u8]) -> Result<&'a [u8], Read
 }
 
 #[tactic(auto, unfolding(crate::specs::Reading::end_at))]
-fn end_of(budget: u64, events: u64, bytes: &[u8]) -> Result<(EndKind, &[u8]), ReadError>
+fn end_of(budget: u64, events: u64, bytes: &[u8]) -> Result<(EndKind, &[u8]), Failure<Refusal>>
     ensures { Gives (λ x. (x.0, x.1.now)) result (end_at budget events bytes.now) }
 {
     match bytes {
@@ -245,7 +246,7 @@ fn end_of(budget: u64, events: u64, bytes: &[u8]) -> Result<(EndKind, &[u8]), Re
 }
 
 #[tactic(auto, unfolding(crate::specs::Reading::tail_at, crate::specs::Reading::nothing_at))]
-fn tail_of(budget: u64, placed: &[Interval], bytes: &[u8]) -> Result<EndKind, ReadError>
+fn tail_of(budget: u64, placed: &[Interval], bytes: &[u8]) -> Result<EndKind, Failure<Refusal>>
     requires apart { ApartFrom 0 placed.now }
     requires low { AllByRecursion (λ (i : Interval). i.last < MOST_EVENTS) placed.now }
     ensures { Gives (λ end. record { budget = budget; intervals = placed.now; end = end }) result (tail_at budget placed.now bytes.now) }
@@ -259,7 +260,7 @@ fn tail_of(budget: u64, placed: &[Interval], bytes: &[u8]) -> Result<EndKind, Re
 }
 
 #[tactic(auto, unfolding(crate::specs::Reading::log_at))]
-fn log_of(alloc: Global, bytes: &[u8]) -> Result<(u64, Vec<Interval>, EndKind), ReadError>
+fn log_of(alloc: Global, bytes: &[u8]) -> Result<(u64, Vec<Interval>, EndKind), Failure<Refusal>>
     ensures { Gives (λ x. record { budget = x.0; intervals = x.1.items; end = x.2 }) result (log_at bytes.now) }
 {
     let rest = head_of(bytes)?;
@@ -283,8 +284,8 @@ pub fn decode(alloc: Global, bytes: &[u8]) -> Result<Log, LogFault>
 {
     match log_of(alloc, bytes) {
         Ok((budget, intervals, end)) => Ok(Log::in_order(budget, intervals, end)),
-        Err(ReadError::Memory) => Err(LogFault::NoMemory),
-        Err(ReadError::Refused(refusal)) => Err(LogFault::At {
+        Err(Failure::Memory) => Err(LogFault::NoMemory),
+        Err(Failure::Fault(refusal)) => Err(LogFault::At {
             kind: refusal.kind,
             offset: (bytes.len() - refusal.left) as u64,
         }),

@@ -2,12 +2,13 @@
 use Rattle.std.proofs.Common.{◌≡◌, ℕ, Bool, true, false, Option, Some, Ok, Err, refl, sym, ◌∙◌, ap}
 use Rattle.std.specs.Prelude.{if◌then◌else◌, slice_get, slice_set, Result}
 use Rattle.vm_model.specs.Program.{PlainProgram}
+use Rattle.vm_model.specs.Failures.{◌>>=◌}
 use Rattle.machine_model.specs.Shapes.{Shape}
 use Rattle.shape_lattice.specs.declared.fault.ShapeKind.{ShapeKind}
 use Rattle.shape_lattice.specs.Merging.{merged_shape, takes}
 use Rattle.shape_verifier.specs.declared.fault.Refusal.{Refusal}
 use Rattle.shape_verifier.specs.declared.passing.Reached.{Reached}
-use Rattle.shape_verifier.specs.Passing.{PassState, ◌>>=◌, at_place, merged_at, merged_into, reached}
+use Rattle.shape_verifier.specs.Passing.{PassState, at_place, merged_at, merged_into, reached}
 use Rattle.shape_verifier.specs.Turning.{CopiedSo}
 use Rattle.shape_verifier.proofs.Places.{same_again}
 

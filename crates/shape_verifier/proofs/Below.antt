@@ -5,6 +5,7 @@ use Rattle.std.proofs.lemmas.Bool.Decides.{nat_tests}
 use Rattle.std.proofs.lemmas.Option.{slice_get_past}
 use Rattle.vm_model.specs.declared.instr.Instr.{Instr}
 use Rattle.vm_model.specs.Program.{PlainMethod, PlainProgram, code_at, instr_at, method_at}
+use Rattle.vm_model.specs.Failures.{◌>>=◌}
 use Rattle.machine_model.specs.Shapes.{Shape, Table, Flow, Next, Jump, Branch, Leaves, Refused, Takes, TakesAt, Follows, FollowsAt, HasShapes, first_shape, flow, shape_at}
 use Rattle.shape_lattice.specs.declared.fault.ShapeKind.{ShapeKind}
 use Rattle.shape_lattice.specs.declared.fault.ShapeKind.TheVariants as fault
@@ -12,7 +13,7 @@ use Rattle.shape_lattice.specs.Merging.{IsBelow, merged_shape, takes}
 use Rattle.shape_verifier.specs.declared.fault.Refusal.{Refusal}
 use Rattle.shape_verifier.specs.declared.passing.Reached.{Reached}
 use Rattle.shape_verifier.specs.Judging.{bounded, is_past, refusal, stack_limit}
-use Rattle.shape_verifier.specs.Passing.{PassState, ◌>>=◌, at_place, begun, judged_at, least_new, looked_at, merged_at, merged_into, reached, spread, turned, turned_at}
+use Rattle.shape_verifier.specs.Passing.{PassState, at_place, begun, judged_at, least_new, looked_at, merged_at, merged_into, reached, spread, turned, turned_at}
 use Rattle.shape_verifier.specs.Kept.{IsBelowAt, IsBelowTable}
 use Rattle.shape_laws.proofs.Tests.{at_most}
 use Rattle.shape_lattice.proofs.Least.{merged_below, same_depth}

@@ -4,12 +4,13 @@ use Rattle.std.specs.Prelude.{if◌then◌else◌, slice_get, slice_set, unwrap_
 use Rattle.std.proofs.lemmas.Bool.{false≢true}
 use Rattle.std.proofs.lemmas.Option.{slice_get_within}
 use Rattle.vm_model.specs.Program.{PlainMethod, PlainProgram}
+use Rattle.vm_model.specs.Failures.{◌>>=◌}
 use Rattle.machine_model.specs.Shapes.{Shape, Flow, Next, Jump, Branch, Leaves, Refused, IsWithinLimits, Takes, TakesAt}
 use Rattle.shape_lattice.specs.declared.fault.ShapeKind.{ShapeKind}
 use Rattle.shape_lattice.specs.Merging.{merged_shape, takes}
 use Rattle.shape_verifier.specs.declared.fault.Refusal.{Refusal}
 use Rattle.shape_verifier.specs.declared.passing.Reached.{Reached}
-use Rattle.shape_verifier.specs.Passing.{PassState, ◌>>=◌, at_place, merged_at, merged_into, reached, spread}
+use Rattle.shape_verifier.specs.Passing.{PassState, at_place, merged_at, merged_into, reached, spread}
 use Rattle.shape_laws.proofs.Tests.{some_there}
 use Rattle.shape_lattice.proofs.Taking.{takes_at_passes, takes_itself, takes_tested}
 use Rattle.shape_lattice.proofs.Least.{merged_takes, same_depth}

@@ -5,10 +5,11 @@ use Rattle.std.proofs.lemmas.Option.{slice_get_within}
 use Rattle.vm_model.specs.Program.{PlainMethod, PlainProgram, locals_of}
 use Rattle.machine_model.specs.Shapes.{Shape}
 use Rattle.shape_verifier.specs.declared.fault.Refusal.{Refusal}
-use Rattle.shape_verifier.specs.declared.passing.PassError.{PassError}
-use Rattle.shape_verifier.specs.declared.passing.PassError.TheVariants as errors
+use Rattle.vm_model.specs.declared.memory.Failure.{Failure}
+use Rattle.vm_model.specs.declared.memory.Failure.TheVariants as failure
+use Rattle.vm_model.specs.Failures.{Fails}
 use Rattle.shape_verifier.specs.Passing.{PassState, begun, reached, turned}
-use Rattle.shape_verifier.specs.Turning.{AreWithin, EndsFrom, PassedSo, SettledSo, StopsSo, TakenSo, gone_on, refused_first}
+use Rattle.shape_verifier.specs.Turning.{AreWithin, EndsFrom, PassedSo, SettledSo, TakenSo, gone_on, refused_first}
 use Rattle.shape_verifier.proofs.Turns.{LeadsTo, Keeps, ends_so, gone_keeps, leads_end, leads_stop, marks, turned_none, turned_so}
 use Rattle.shape_verifier.proofs.Weights.{weight}
 
@@ -57,14 +58,14 @@ settled p n m first old new o leads so is = by (subst (λ (x : Option (ℕ × Sh
     by h = subst (λ (x : PassState). EndsFrom p n m first (Ok x)) (sym h.1) (leads_end p n m first old leads (turned_none p n m old h.0))
 
 -- the turn meets a fault
-pub stopped : (p : PlainProgram) (n : ℕ) (m : PlainMethod) (first old marked new : PassState) (place : ℕ) (s : Shape) (e : PassError) → LeadsTo p n m first old → Taken p n m old marked place s
-    → StopsSo e (gone_on p n m marked place s) → SettledSo (Err e) p n m first new
-stopped p n m first old marked new place s errors.Memory leads t h = tt
-stopped p n m first old marked new place s (errors.Refused refusal) leads t h = leads_stop p n m first old refusal leads (t.turns (Err refusal) h)
+pub stopped : (p : PlainProgram) (n : ℕ) (m : PlainMethod) (first old marked new : PassState) (place : ℕ) (s : Shape) (e : (Failure Refusal)) → LeadsTo p n m first old → Taken p n m old marked place s
+    → Fails e (gone_on p n m marked place s) → SettledSo (Err e) p n m first new
+stopped p n m first old marked new place s failure.Memory leads t h = tt
+stopped p n m first old marked new place s (failure.Fault refusal) leads t h = leads_stop p n m first old refusal leads (t.turns (Err refusal) h)
 
 -- ---- the pass
 
-pub passed_so : (p : PlainProgram) (n : ℕ) (m : PlainMethod) (first last : PassState) (r : Result (Unit {0}) PassError) → refused_first m ≡ None → first ≡ begun m → SettledSo r p n m first last → PassedSo r p n m
+pub passed_so : (p : PlainProgram) (n : ℕ) (m : PlainMethod) (first last : PassState) (r : Result (Unit {0}) (Failure Refusal)) → refused_first m ≡ None → first ≡ begun m → SettledSo r p n m first last → PassedSo r p n m
 passed_so p n m first last (Ok x) none is h = (last, ends_so p n m (Ok last) none (subst (λ (x : PassState). EndsFrom p n m x (Ok last)) is h))
-passed_so p n m first last (Err errors.Memory) none is h = tt
-passed_so p n m first last (Err (errors.Refused refusal)) none is h = ends_so p n m (Err refusal) none (subst (λ (x : PassState). EndsFrom p n m x (Err refusal)) is h)
+passed_so p n m first last (Err failure.Memory) none is h = tt
+passed_so p n m first last (Err (failure.Fault refusal)) none is h = ends_so p n m (Err refusal) none (subst (λ (x : PassState). EndsFrom p n m x (Err refusal)) is h)

@@ -8,13 +8,14 @@ use Rattle.std.proofs.lemmas.List.{length-replicate}
 use Rattle.std.proofs.lemmas.Option.{slice_get_within}
 use Rattle.vm_model.specs.declared.instr.Instr.{Instr}
 use Rattle.vm_model.specs.Program.{PlainMethod, PlainProgram, instr_at, locals_of, method_at}
+use Rattle.vm_model.specs.Failures.{◌>>=◌}
 use Rattle.machine_model.specs.Shapes.{Shape, Table, Flow, Next, Jump, Branch, Leaves, Refused, IsWithinLimits, TakesAt, Follows, FollowsAt, HasShapes, first_shape, flow, found, parameters, shape_at, shape_in}
 use Rattle.shape_lattice.specs.declared.fault.ShapeKind.{ShapeKind}
 use Rattle.shape_lattice.specs.declared.fault.ShapeKind.TheVariants as fault
 use Rattle.shape_verifier.specs.declared.fault.Refusal.{Refusal}
 use Rattle.shape_verifier.specs.declared.passing.Reached.{Reached}
 use Rattle.shape_verifier.specs.Judging.{bounded, is_past, judged, refusal, stack_limit}
-use Rattle.shape_verifier.specs.Passing.{PassState, EndsWith, HasTable, ◌>>=◌, at_place, begun, judged_at, least_new, looked_at, method_within, pass_within, passed_on, reached, spread, turned, turned_at}
+use Rattle.shape_verifier.specs.Passing.{PassState, EndsWith, HasTable, at_place, begun, judged_at, least_new, looked_at, method_within, pass_within, passed_on, reached, spread, turned, turned_at}
 use Rattle.shape_lattice.proofs.Taking.{takes_itself}
 use Rattle.shape_verifier.proofs.Stops.{first_width}
 use Rattle.shape_verifier.proofs.Widths.{HasWidth, flow_keeps, set_width}

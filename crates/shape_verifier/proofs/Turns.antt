@@ -5,12 +5,13 @@ use Rattle.std.proofs.lemmas.Bool.Decides.{nat_tests}
 use Rattle.std.specs.Prelude.{◌==◌, if◌then◌else◌, nat_lt, slice_get, slice_set, Result}
 use Rattle.vm_model.specs.declared.instr.Instr.{Instr}
 use Rattle.vm_model.specs.Program.{PlainMethod, PlainProgram, instr_at, locals_of}
+use Rattle.vm_model.specs.Failures.{◌>>=◌}
 use Rattle.machine_model.specs.Shapes.{Shape, Flow, Next, Jump, Branch, Leaves, Refused, IsWithinLimits, first_shape, parameters}
 use Rattle.shape_lattice.specs.declared.fault.ShapeKind.{ShapeKind}
 use Rattle.shape_lattice.specs.declared.fault.ShapeKind.TheVariants as fault
 use Rattle.shape_verifier.specs.declared.fault.Refusal.{Refusal}
 use Rattle.shape_verifier.specs.Judging.{judged}
-use Rattle.shape_verifier.specs.Passing.{PassState, EndsWith, ◌>>=◌, at_place, begun, judged_at, least_new, merged_at, method_within, pass_within, passed_on, reached, spread, turned, turned_at}
+use Rattle.shape_verifier.specs.Passing.{PassState, EndsWith, at_place, begun, judged_at, least_new, merged_at, method_within, pass_within, passed_on, reached, spread, turned, turned_at}
 use Rattle.shape_verifier.specs.Turning.{AreWithin, EndsFrom, IsWithin, gone_on, refused_first}
 use Rattle.shape_laws.proofs.Tests.{all_set, all_there}
 use Rattle.shape_verifier.proofs.Arrivals.{Arrives, Nowhere, First, Stays, Raised, arrives}

@@ -4,8 +4,9 @@ use Rattle.vm_model.specs.Program.{PlainMethod, PlainProgram, method_at}
 use Rattle.machine_model.specs.Shapes.{HasShapes}
 use Rattle.shape_verifier.specs.declared.fault.ShapeFault.{ShapeFault}
 use Rattle.shape_verifier.specs.declared.fault.ShapeFault.TheVariants as fault
-use Rattle.shape_verifier.specs.declared.passing.PassError.{PassError}
-use Rattle.shape_verifier.specs.declared.passing.PassError.TheVariants as errors
+use Rattle.vm_model.specs.declared.memory.Failure.{Failure}
+use Rattle.shape_verifier.specs.declared.fault.Refusal.{Refusal}
+use Rattle.vm_model.specs.declared.memory.Failure.TheVariants as failure
 use Rattle.shape_verifier.specs.Passing.{HasTable, IsRefused}
 use Rattle.shape_verifier.specs.Turning.{PassedSo}
 use Rattle.shape_verifier.specs.Verdicts.{FailsSo, Refuses, fault_at}
@@ -21,9 +22,9 @@ pub ended : (p : PlainProgram) (n : ℕ) (m : PlainMethod) → method_at p n ≡
 ended p n m is passed = gives_table p n m is passed.0 passed.1
 
 -- a pass that stops shows that there is none
-pub stopped : (p : PlainProgram) (n : ℕ) (m : PlainMethod) (e : PassError) → method_at p n ≡ Some m → PassedSo (Err e) p n m → FailsSo (fault_at e n) p n
-stopped p n m errors.Memory is passed = tt
-stopped p n m (errors.Refused refusal) is passed = (refl, record { method = m; is_method = is; stops = passed; none = λ table. shows_none p n m refusal is passed table })
+pub stopped : (p : PlainProgram) (n : ℕ) (m : PlainMethod) (e : (Failure Refusal)) → method_at p n ≡ Some m → PassedSo (Err e) p n m → FailsSo (fault_at e n) p n
+stopped p n m failure.Memory is passed = tt
+stopped p n m (failure.Fault refusal) is passed = (refl, record { method = m; is_method = is; stops = passed; none = λ table. shows_none p n m refusal is passed table })
 
 -- the first method over which the pass stops
 pub first_refused : (p : PlainProgram) (n : ℕ) (f : ShapeFault) → ((k : ℕ) → k < n → HasTable p k) → FailsSo f p n → Refuses p f

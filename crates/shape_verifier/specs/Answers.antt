@@ -10,8 +10,8 @@ use Rattle.shape_verifier.specs.declared.flow.Onward.{Onward}
 use Rattle.shape_verifier.specs.declared.flow.Onward.TheVariants as onward
 use Rattle.shape_verifier.specs.declared.step.Step.{Step}
 use Rattle.shape_verifier.specs.declared.step.Step.TheVariants as step
-use Rattle.shape_verifier.specs.declared.flow.JudgeError.{JudgeError}
-use Rattle.shape_verifier.specs.declared.flow.JudgeError.TheVariants as errors
+use Rattle.vm_model.specs.declared.memory.Failure.{Failure}
+use Rattle.vm_model.specs.Failures.{Fails}
 
 -- control goes on so, with this shape
 abbrev pub flow_to : Onward → Shape → Flow
@@ -20,14 +20,10 @@ flow_to (onward.Jump to) s = Jump to s
 flow_to (onward.Branch to) s = Branch to s
 flow_to onward.Leaves s = Leaves
 
-abbrev pub FailsSo : JudgeError → Result Flow ShapeKind → Type 0
-FailsSo errors.Memory judged = Unit {0}
-FailsSo (errors.Refused kind) judged = judged ≡ Err kind
-
 -- what an instruction was judged to do, unless memory ran out
-abbrev pub JudgedSo : Result Onward JudgeError → Shape → Result Flow ShapeKind → Type 0
+abbrev pub JudgedSo : Result Onward (Failure ShapeKind) → Shape → Result Flow ShapeKind → Type 0
 JudgedSo (Ok onward) s judged = judged ≡ Ok (flow_to onward s)
-JudgedSo (Err e) s judged = FailsSo e judged
+JudgedSo (Err e) s judged = Fails e judged
 
 -- what an instruction does to a shape, where it leaves this one
 abbrev pub flow_of : Step → Shape → Flow

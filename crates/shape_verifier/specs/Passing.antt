@@ -3,6 +3,7 @@
 use Rattle.std.specs.Prelude.{◌≡◌, ℕ, zero, suc, ◌+◌, ◌==◌, ◌<◌, Bool, true, false, if◌then◌else◌, nat_lt, List, [], ◌∷◌, length, replicate, Option, Some, None, slice_get, slice_set, Result, Ok, Err}
 use Rattle.vm_model.specs.declared.instr.Instr.{Instr}
 use Rattle.vm_model.specs.Program.{PlainMethod, PlainProgram, instr_at, locals_of, method_at}
+use Rattle.vm_model.specs.Failures.{◌>>=◌}
 use Rattle.machine_model.specs.Shapes.{Shape, Table, Flow, Next, Jump, Branch, Leaves, Refused, first_shape, parameters, HasShapes}
 use Rattle.shape_lattice.specs.declared.fault.ShapeKind.{ShapeKind}
 use Rattle.shape_lattice.specs.declared.fault.ShapeKind.TheVariants as fault
@@ -10,11 +11,6 @@ use Rattle.shape_lattice.specs.Merging.{merged_shape, takes}
 use Rattle.shape_verifier.specs.declared.fault.Refusal.{Refusal}
 use Rattle.shape_verifier.specs.declared.passing.Reached.{Reached}
 use Rattle.shape_verifier.specs.Judging.{judged}
-
-infixl 10 ◌>>=◌
-abbrev pub ◌>>=◌ : {E A B : Type 0} → Result A E → (A → Result B E) → Result B E
-(Ok x) >>= f = f x
-(Err e) >>= f = Err e
 
 -- what the pass knows: for each instruction the shape with which it was reached, if it was
 abbrev pub PassState : Type 0

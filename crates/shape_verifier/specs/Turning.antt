@@ -11,9 +11,10 @@ use Rattle.shape_verifier.specs.declared.fault.Refusal.{Refusal}
 use Rattle.shape_verifier.specs.declared.passing.Reached.{Reached}
 use Rattle.shape_verifier.specs.declared.passing.Met.{Met}
 use Rattle.shape_verifier.specs.declared.passing.Met.TheVariants as met
-use Rattle.shape_verifier.specs.declared.passing.PassError.{PassError}
-use Rattle.shape_verifier.specs.declared.passing.PassError.TheVariants as errors
-use Rattle.shape_verifier.specs.Passing.{PassState, ◌>>=◌, EndsWith, at_place, judged_at, least_new, pass_within, reached, spread}
+use Rattle.vm_model.specs.declared.memory.Failure.{Failure}
+use Rattle.vm_model.specs.declared.memory.Failure.TheVariants as failure
+use Rattle.vm_model.specs.Failures.{◌>>=◌, Fails}
+use Rattle.shape_verifier.specs.Passing.{PassState, EndsWith, at_place, judged_at, least_new, pass_within, reached, spread}
 
 -- ---- what is new
 
@@ -77,20 +78,16 @@ ArrivedSo (Ok true) old new answer = answer ≡ Ok new
 ArrivedSo (Ok false) old new answer = (answer ≡ Ok new) × (new ≡ old)
 ArrivedSo (Err refusal) old new answer = answer ≡ Err refusal
 
-abbrev pub StopsSo : PassError → Result PassState Refusal → Type 0
-StopsSo errors.Memory answer = Unit {0}
-StopsSo (errors.Refused refusal) answer = answer ≡ Err refusal
-
 -- the same where memory may run out
-abbrev pub CopiedSo : Result Bool PassError → PassState → PassState → Result PassState Refusal → Type 0
+abbrev pub CopiedSo : Result Bool (Failure Refusal) → PassState → PassState → Result PassState Refusal → Type 0
 CopiedSo (Ok true) old new answer = answer ≡ Ok new
 CopiedSo (Ok false) old new answer = (answer ≡ Ok new) × (new ≡ old)
-CopiedSo (Err e) old new answer = StopsSo e answer
+CopiedSo (Err e) old new answer = Fails e answer
 
 -- the state after a turn, in which nothing is new before this instruction
-abbrev pub SpreadSo : Result ℕ PassError → PassState → Result PassState Refusal → Type 0
+abbrev pub SpreadSo : Result ℕ (Failure Refusal) → PassState → Result PassState Refusal → Type 0
 SpreadSo (Ok from) new answer = (answer ≡ Ok new) × NoneNewBelow from new
-SpreadSo (Err e) new answer = StopsSo e answer
+SpreadSo (Err e) new answer = Fails e answer
 
 -- an instruction is judged with its shape, and what it makes is merged into its followers
 abbrev pub gone_on : PlainProgram → ℕ → PlainMethod → PassState → ℕ → Shape → Result PassState Refusal
@@ -108,22 +105,22 @@ refused_first m =
     else if length m.code == 0 then Some (record { kind = fault.FallsOff; at = 0 })
     else None
 
-abbrev pub RefusedSo : PassError → Option Refusal → Type 0
-RefusedSo errors.Memory refused = Unit {0}
-RefusedSo (errors.Refused refusal) refused = refused ≡ Some refusal
+abbrev pub RefusedSo : (Failure Refusal) → Option Refusal → Type 0
+RefusedSo failure.Memory refused = Unit {0}
+RefusedSo (failure.Fault refusal) refused = refused ≡ Some refusal
 
 -- from this state the pass ends so
 abbrev pub EndsFrom : PlainProgram → ℕ → PlainMethod → PassState → Result PassState Refusal → Type 0
 EndsFrom p n m state answer = (turns : ℕ) × (pass_within turns p n m state ≡ Some answer)
 
 -- from the old state the pass ends with the new one or with this refusal, unless memory runs out
-abbrev pub SettledSo : Result (Unit {0}) PassError → PlainProgram → ℕ → PlainMethod → PassState → PassState → Type 0
+abbrev pub SettledSo : Result (Unit {0}) (Failure Refusal) → PlainProgram → ℕ → PlainMethod → PassState → PassState → Type 0
 SettledSo (Ok _) p n m old new = EndsFrom p n m old (Ok new)
-SettledSo (Err errors.Memory) p n m old new = Unit {0}
-SettledSo (Err (errors.Refused refusal)) p n m old new = EndsFrom p n m old (Err refusal)
+SettledSo (Err failure.Memory) p n m old new = Unit {0}
+SettledSo (Err (failure.Fault refusal)) p n m old new = EndsFrom p n m old (Err refusal)
 
 -- the pass ends with a state or with this refusal, unless memory runs out
-abbrev pub PassedSo : Result (Unit {0}) PassError → PlainProgram → ℕ → PlainMethod → Type 0
+abbrev pub PassedSo : Result (Unit {0}) (Failure Refusal) → PlainProgram → ℕ → PlainMethod → Type 0
 PassedSo (Ok _) p n m = (state : PassState) × EndsWith p n m (Ok state)
-PassedSo (Err errors.Memory) p n m = Unit {0}
-PassedSo (Err (errors.Refused refusal)) p n m = EndsWith p n m (Err refusal)
+PassedSo (Err failure.Memory) p n m = Unit {0}
+PassedSo (Err (failure.Fault refusal)) p n m = EndsWith p n m (Err refusal)

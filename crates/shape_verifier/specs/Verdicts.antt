@@ -7,8 +7,8 @@ use Rattle.shape_verifier.specs.declared.fault.ShapeFault.TheVariants as fault
 use Rattle.shape_verifier.specs.declared.verifying.Room.{Room}
 use Rattle.shape_verifier.specs.declared.fault.Refusal.{Refusal}
 use Rattle.shape_verifier.specs.Judging.{stack_limit}
-use Rattle.shape_verifier.specs.declared.passing.PassError.{PassError}
-use Rattle.shape_verifier.specs.declared.passing.PassError.TheVariants as errors
+use Rattle.vm_model.specs.declared.memory.Failure.{Failure}
+use Rattle.vm_model.specs.declared.memory.Failure.TheVariants as failure
 use Rattle.shape_verifier.specs.Passing.{EndsWith, HasTable, IsRefused}
 
 -- the program has a least method without a closed table, over which the pass stops there, unless memory ran out
@@ -30,9 +30,9 @@ IsRoomFor p method room =
 -- ---- one method
 
 -- what the end of a pass over a method says of the program
-abbrev pub fault_at : PassError → ℕ → ShapeFault
-fault_at errors.Memory n = fault.NoMemory
-fault_at (errors.Refused refusal) n = fault.At refusal.kind n refusal.at
+abbrev pub fault_at : (Failure Refusal) → ℕ → ShapeFault
+fault_at failure.Memory n = fault.NoMemory
+fault_at (failure.Fault refusal) n = fault.At refusal.kind n refusal.at
 
 -- the pass over a method stops here, and the method has no closed table
 pub record StopsAt (p : PlainProgram) (n : ℕ) (refusal : Refusal) : Type 0 where

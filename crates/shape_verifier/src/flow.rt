@@ -5,7 +5,6 @@ ghost use Rattle.vm_model.specs.Program.{method_at};
 ghost use Rattle.machine_model.specs.Shapes.{Jump, flow as model_flow};
 ghost use Rattle.shape_verifier.specs.Judging.{judged as model_judged, bounded as model_bounded, operands_of as model_operands_of, arguments_of as arguments_of_method, going as model_going, is_unset as is_unset_by, refused_operand as refused_operand_of, refusal as model_refusal, stack_limit as stack_limit_of};
 ghost use Rattle.shape_verifier.specs.Answers.{BoundedSo, JudgedSo, flow_of, flow_to};
-ghost use Rattle.shape_verifier.specs.declared.flow.JudgeError.TheVariants.{Memory};
 
 use crate::declared::{
     call_on, call_static, get_field, get_static, put_field, put_static, return_int, return_nothing,
@@ -19,8 +18,8 @@ use crate::step::{
 };
 use built_in_classes::{OBJECT, PRINT_STREAM, RUNNABLE, STRING, THREAD};
 use shape_lattice::{Shape, ShapeKind};
-use std::alloc::{AllocError, AllocFailed, Global};
-use vm_model::{Instr, Kind, MOST_OPERANDS, Method, NoMemory, Program};
+use std::alloc::Global;
+use vm_model::{Failure, Instr, Kind, MOST_OPERANDS, Method, NoMemory, Program};
 
 /// Where control goes on from an instruction.
 #[derive(Clone, Copy, Debug, PartialEq, Eq)]
@@ -31,37 +30,6 @@ pub enum Onward {
     Branch(u32),
     /// Out of the method.
     Leaves,
-}
-
-/// Why an instruction gave no shape.
-#[derive(Clone, Copy, Debug, PartialEq, Eq)]
-pub enum JudgeError {
-    Memory,
-    Refused(ShapeKind),
-}
-
-impl From<AllocError> for JudgeError {
-    ghost from_gives = { λ _ e. e ≡ Memory };
-
-    fn from(_e: AllocError) -> JudgeError {
-        JudgeError::Memory
-    }
-}
-
-impl<T: Drop> From<AllocFailed<T>> for JudgeError {
-    ghost from_gives = { λ _ e. e ≡ Memory };
-
-    fn from(_e: AllocFailed<T>) -> JudgeError {
-        JudgeError::Memory
-    }
-}
-
-impl From<NoMemory> for JudgeError {
-    ghost from_gives = { λ _ e. e ≡ Memory };
-
-    fn from(_e: NoMemory) -> JudgeError {
-        JudgeError::Memory
-    }
 }
 
 /// What an instruction of a method of this number does to a shape: one line for each (JVMS SE 8 §4.10.1.9).
@@ -367,7 +335,7 @@ pub fn judge(
     place: u32,
     instr: Instr,
     shape: &mut Shape,
-) -> Result<Onward, JudgeError>
+) -> Result<Onward, Failure<ShapeKind>>
     requires is_method { method_at program.now number ≡ Some method.now }
     requires place { place < 2 ^ 31 }
     ensures { JudgedSo result shape.new (model_judged program.now number method.now place instr shape.old) }
@@ -376,6 +344,6 @@ pub fn judge(
     let step = flow(shape, program, number, method, instr)?;
     match bounded(shape, method, place, why, step) {
         Ok(onward) => Ok(onward),
-        Err(kind) => Err(JudgeError::Refused(kind)),
+        Err(kind) => Err(Failure::Fault(kind)),
     }
 }

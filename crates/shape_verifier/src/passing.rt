@@ -9,43 +9,19 @@ ghost use Rattle.shape_lattice.specs.Merging.{merged_shape, takes as takes_shape
 ghost use Rattle.shape_verifier.specs.Answers.{flow_to};
 ghost use Rattle.shape_verifier.specs.Passing.{EndsWith, PassState, begun as model_begun, merged_at, spread as model_spread};
 ghost use Rattle.shape_verifier.specs.Turning.{AreWithin, ArrivedSo, CopiedSo, HaveLocals, HaveLocalsOf, MetSo, NoneNewBelow, PassedSo, RaisedSo, RefusedSo, SettledSo, SpreadSo, TakenSo, gone_on, refused_first, receiver_local};
-ghost use Rattle.shape_verifier.specs.declared.passing.PassError.TheVariants.{Memory};
-ghost use Rattle.shape_verifier.specs.declared.passing.PassError.TheVariants as errors;
+ghost use Rattle.vm_model.specs.declared.memory.Failure.TheVariants as failure;
 
 use crate::fault::Refusal;
-use crate::flow::{JudgeError, Onward, judge};
+use crate::flow::{Onward, judge};
 use shape_lattice::{Shape, ShapeKind, merge, takes};
-use std::alloc::{AllocError, AllocFailed, Global};
-use vm_model::{Kind, MOST_LOCALS, Method, Program};
+use std::alloc::{AllocError, Global};
+use vm_model::{Failure, Kind, MOST_LOCALS, Method, Program};
 
-/// Why a pass didn't end.
-#[derive(Clone, Copy, Debug, PartialEq, Eq)]
-pub enum PassError {
-    Memory,
-    Refused(Refusal),
-}
+impl From<Refusal> for Failure<Refusal> {
+    ghost from_gives = { λ r e. e ≡ failure.Fault r };
 
-impl From<AllocError> for PassError {
-    ghost from_gives = { λ _ e. e ≡ Memory };
-
-    fn from(_e: AllocError) -> PassError {
-        PassError::Memory
-    }
-}
-
-impl<T: Drop> From<AllocFailed<T>> for PassError {
-    ghost from_gives = { λ _ e. e ≡ Memory };
-
-    fn from(_e: AllocFailed<T>) -> PassError {
-        PassError::Memory
-    }
-}
-
-impl From<Refusal> for PassError {
-    ghost from_gives = { λ r e. e ≡ errors.Refused r };
-
-    fn from(refusal: Refusal) -> PassError {
-        PassError::Refused(refusal)
+    fn from(refusal: Refusal) -> Failure<Refusal> {
+        Failure::Fault(refusal)
     }
 }
 
@@ -113,20 +89,20 @@ fn alone(alloc: Global, first: Shape, count: usize) -> Result<Vec<Option<Reached
 }
 
 /// What the pass knows at first: the shape of the parameters at the first instruction.
-fn begin(alloc: Global, method: &Method) -> Result<Vec<Option<Reached>>, PassError>
+fn begin(alloc: Global, method: &Method) -> Result<Vec<Option<Reached>>, Failure<Refusal>>
     ensures begun { IfOk result (λ v. (v.items ≡ model_begun method.now) × (refused_first method.now ≡ None)) }
     ensures refused { IfErr result (λ e. RefusedSo e (refused_first method.now)) }
 {
     let count = locals_of(method) as usize;
     let locals = parameters(alloc, method, count)?;
     if count < locals.len() {
-        return Err(PassError::Refused(Refusal {
+        return Err(Failure::Fault(Refusal {
             kind: ShapeKind::Limit,
             at: 0,
         }));
     }
     if method.code.is_empty() {
-        return Err(PassError::Refused(Refusal {
+        return Err(Failure::Fault(Refusal {
             kind: ShapeKind::FallsOff,
             at: 0,
         }));
@@ -244,7 +220,7 @@ fn arrive_copy(
     state: &mut [Option<Reached>],
     place: u32,
     shape: &Shape,
-) -> Result<bool, PassError>
+) -> Result<bool, Failure<Refusal>>
     requires { HaveLocals (length shape.now.locals) state.old }
     ensures { CopiedSo result state.old state.new (merged_at program.now state.old place shape.now) }
 {
@@ -268,7 +244,7 @@ fn jump(
     next: u32,
     to: u32,
     shape: Shape,
-) -> Result<u32, PassError>
+) -> Result<u32, Failure<Refusal>>
     requires locals { HaveLocals (length shape.locals) state.old }
     requires none { NoneNewBelow next state.old }
     ensures { SpreadSo result state.new (merged_at program.now state.old to shape) }
@@ -289,7 +265,7 @@ fn spread(
     place: u32,
     onward: Onward,
     shape: Shape,
-) -> Result<u32, PassError>
+) -> Result<u32, Failure<Refusal>>
     requires place { place < 2 ^ 31 }
     requires locals { HaveLocalsOf (flow_to onward shape) state.old }
     requires none { NoneNewBelow (place + 1) state.old }
@@ -317,7 +293,7 @@ fn turn(
     state: &mut [Option<Reached>],
     place: u32,
     shape: Shape,
-) -> Result<u32, PassError>
+) -> Result<u32, Failure<Refusal>>
     requires is_method { method_at program.now number ≡ Some method.now }
     requires place { place < 2 ^ 31 }
     requires within { AreWithin method.now state.old }
@@ -326,7 +302,7 @@ fn turn(
     ensures { SpreadSo result state.new (gone_on program.now number method.now state.old place shape) }
 {
     let Some(instr) = program.instr_at(number, place) else {
-        return Err(PassError::Refused(Refusal {
+        return Err(Failure::Fault(Refusal {
             kind: ShapeKind::FallsOff,
             at: place,
         }));
@@ -334,8 +310,8 @@ fn turn(
     let mut shape = shape;
     match judge(program, number, method, place, instr, &mut shape) {
         Ok(onward) => spread(alloc, program, state, place, onward, shape),
-        Err(JudgeError::Memory) => Err(PassError::Memory),
-        Err(JudgeError::Refused(kind)) => Err(PassError::Refused(Refusal { kind, at: place })),
+        Err(Failure::Memory) => Err(Failure::Memory),
+        Err(Failure::Fault(kind)) => Err(Failure::Fault(Refusal { kind, at: place })),
     }
 }
 
@@ -346,7 +322,7 @@ fn settle(
     number: u32,
     method: &Method,
     state: &mut [Option<Reached>],
-) -> Result<(), PassError>
+) -> Result<(), Failure<Refusal>>
     requires is_method { method_at program.now number ≡ Some method.now }
     requires few { length state.old < 2 ^ 31 }
     requires within { AreWithin method.now state.old }
@@ -361,7 +337,12 @@ fn settle(
 
 /// The pass over a method of this number. It takes memory for the shapes of the instructions, and for a copy of the one that is
 /// looked at.
-pub fn pass(alloc: Global, program: &Program, number: u32, method: &Method) -> Result<(), PassError>
+pub fn pass(
+    alloc: Global,
+    program: &Program,
+    number: u32,
+    method: &Method,
+) -> Result<(), Failure<Refusal>>
     requires is_method { method_at program.now number ≡ Some method.now }
     requires few { length method.now.code ≤ MOST_TEXT_BYTES }
     ensures { PassedSo result program.now number method.now }

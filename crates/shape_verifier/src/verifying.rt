@@ -6,12 +6,12 @@ ghost use Rattle.vm_model.specs.Program.{method_at};
 ghost use Rattle.machine_model.specs.Shapes.{IsVerified};
 ghost use Rattle.shape_verifier.specs.Verdicts.{IsLimitOf, IsRoomFor, Refuses, VerifiedSo, fault_at};
 
-use crate::fault::ShapeFault;
+use crate::fault::{Refusal, ShapeFault};
 use crate::flow::stack_limit;
-use crate::passing::{PassError, locals_of, pass};
+use crate::passing::{locals_of, pass};
 use std::alloc::Global;
 use std::marker::Model;
-use vm_model::{Plain, Program};
+use vm_model::{Failure, Plain, Program};
 
 /// A program each of whose methods has a closed table of shapes. No step of it meets a missing operand, an operand of another
 /// kind, an unset local or a jump out of the code (JVMS SE 8 §4.10).
@@ -73,12 +73,12 @@ impl Shaped {
 }
 
 /// What the end of a pass over the method of this number says of the program.
-fn fault_of(error: PassError, number: u32) -> ShapeFault
+fn fault_of(error: Failure<Refusal>, number: u32) -> ShapeFault
     ensures { result ≡ fault_at error number }
 {
     match error {
-        PassError::Memory => ShapeFault::NoMemory,
-        PassError::Refused(refusal) => ShapeFault::At {
+        Failure::Memory => ShapeFault::NoMemory,
+        Failure::Fault(refusal) => ShapeFault::At {
             kind: refusal.kind,
             method: number,
             at: refusal.at,

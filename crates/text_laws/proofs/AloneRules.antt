@@ -3,6 +3,7 @@ use Rattle.std.proofs.Common.{◌≡◌, ◌≢◌, ℕ, ◌-◌, ◌≤◌, Boo
 use Rattle.std.specs.Prelude.{◌↔◌, Contains, slice_index}
 use Rattle.std.proofs.lemmas.List.{length-append}
 use Rattle.std.proofs.Math.Seq.{take-append_seam}
+use Rattle.vm_model.specs.Failures.{◌>>=◌}
 use Rattle.jasmin_lines.specs.declared.fault.ReadKind.{ReadKind}
 use Rattle.jasmin_lines.specs.declared.fault.ReadKind.TheVariants.{BadDirective, BadMnemonic, BadOperand, BadName}
 use Rattle.jasmin_lines.specs.declared.form.Form.{Form}
@@ -11,7 +12,7 @@ use Rattle.jasmin_lines.specs.declared.lexeme.Lexeme.{Lexeme}
 use Rattle.jasmin_lines.specs.declared.lexeme.Lexeme.TheVariants as lexeme
 use Rattle.jasmin_lines.specs.declared.mnemonic.Mnemonic.{Mnemonic}
 use Rattle.jasmin_lines.specs.Directives.{directive_form}
-use Rattle.jasmin_lines.specs.Faults.{◌>>=◌, kind_number}
+use Rattle.jasmin_lines.specs.Faults.{kind_number}
 use Rattle.jasmin_lines.specs.Forms.{code, unlabelled_form, labelled_form, label_of, coded, begins_with_dot, form_of}
 use Rattle.jasmin_lines.specs.Instructions.{instruction}
 use Rattle.jasmin_lines.specs.Said.{PlainSaid}

@@ -4,12 +4,12 @@ use Rattle.std.specs.Prelude.{codes}
 use Rattle.std.proofs.lemmas.Bool.Decides.{nat_tests}
 use Rattle.std.specs.List.{AllByRecursion}
 use Rattle.std.proofs.lemmas.List.{append_assoc}
+use Rattle.vm_model.specs.Failures.{◌>>=◌}
 use Rattle.jasmin_lines.specs.declared.class_text.NameAt.{NameAt}
 use Rattle.jasmin_lines.specs.declared.fault.ReadKind.{ReadKind}
 use Rattle.jasmin_lines.specs.declared.form.Form.TheVariants as form
 use Rattle.jasmin_lines.specs.declared.lexeme.Lexeme.{Lexeme}
 use Rattle.jasmin_lines.specs.declared.lexeme.Lexeme.TheVariants as lexeme
-use Rattle.jasmin_lines.specs.Faults.{◌>>=◌}
 use Rattle.jasmin_lines.specs.Words.{one, word_of, is_word, is_name, is_class_name, name_of, class_name_of}
 use Rattle.jasmin_lines.specs.Directives.{split_last, class_flags, field_flags, empty_class, class_form, name_at, after_sign, valued_by, valued, field_of, field_form}
 use Rattle.jasmin_lines.specs.Forms.{form_of}

@@ -1,13 +1,13 @@
 -- A line that begins with a dot is read where its words follow the rules, and has a bad name where only that is wrong.
 use Rattle.std.proofs.Common.{◌≡◌, ℕ, Bool, true, ◌&&◌, List, [], ◌∷◌, ◌++◌, Option, Some, None, Result, Ok, refl, ap, sym, ◌∙◌, subst, ℤ, pos}
 use Rattle.std.specs.Prelude.{Contains, codes}
+use Rattle.vm_model.specs.Failures.{◌>>=◌}
 use Rattle.jasmin_lines.specs.declared.class_text.NameAt.{NameAt}
 use Rattle.jasmin_lines.specs.declared.fault.ReadKind.{ReadKind}
 use Rattle.jasmin_lines.specs.declared.form.Form.{Form}
 use Rattle.jasmin_lines.specs.declared.form.Form.TheVariants as form
 use Rattle.jasmin_lines.specs.declared.lexeme.Lexeme.{Lexeme}
 use Rattle.jasmin_lines.specs.declared.lexeme.Lexeme.TheVariants as lexeme
-use Rattle.jasmin_lines.specs.Faults.{◌>>=◌}
 use Rattle.jasmin_lines.specs.Words.{in_range, is_name, is_class_name, is_method_name, described}
 use Rattle.jasmin_lines.specs.Directives.{class_flags, field_flags, method_flags, split_last, source_form, class_form, name_at, after_sign, valued_by, valued, field_of, field_form, method_form, limit_form, end_form, catch_of, catch_form, directive_form}
 use Rattle.text_laws.specs.WordRules.{HasFlags, bare_class, bare_method, flags_of_classes, flags_of_fields, flags_of_methods, IsDescribed, IsFrom, directives, FollowsDirective, Source, Bytecode, Interface, Class, Super, Implements, Field, ValuedField, Method, StackLimit, LocalsLimit, Line, Var, Throws, Catch, End}

@@ -2,6 +2,7 @@
 use Rattle.std.proofs.Common.{◌≡◌, ℕ, Bool, true, false, List, [], ◌∷◌, Option, Some, None, Result, Ok, ℤ, pos, negsuc, map, refl, ap, ◌∙◌, subst}
 use Rattle.std.specs.Prelude.{codes}
 use Rattle.std.specs.List.{AllByRecursion}
+use Rattle.vm_model.specs.Failures.{◌>>=◌, or_fault}
 use Rattle.jasmin_lines.specs.declared.class_text.Operand.{Operand}
 use Rattle.jasmin_lines.specs.declared.class_text.Operand.TheVariants as operand
 use Rattle.jasmin_lines.specs.declared.fault.ReadKind.{ReadKind}
@@ -12,7 +13,6 @@ use Rattle.jasmin_lines.specs.declared.mnemonic.Access.{Access}
 use Rattle.jasmin_lines.specs.declared.mnemonic.Access.TheVariants as access
 use Rattle.jasmin_lines.specs.declared.mnemonic.Mnemonic.{Mnemonic}
 use Rattle.jasmin_lines.specs.declared.mnemonic.Mnemonic.TheVariants as mnemonic
-use Rattle.jasmin_lines.specs.Faults.{◌>>=◌, or_fault}
 use Rattle.jasmin_lines.specs.Said.{PlainSaid}
 use Rattle.jasmin_lines.specs.Words.{none, one, two, word_of, in_range, number_of, named, is_name, is_class_name, is_method_name, name_of, class_name_of, is_member, described}
 use Rattle.jasmin_lines.specs.Mnemonics.{table, mnemonic_of}

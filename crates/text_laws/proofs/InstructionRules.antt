@@ -2,6 +2,7 @@
 use Rattle.std.proofs.Common.{◌≡◌, ◌≢◌, ℕ, ◌-◌, Bool, true, false, ◌&&◌, List, [], ◌∷◌, Option, Some, None, Result, Ok, Err, refl, ap, sym, ◌∙◌, subst, cond, ℤ, pos, negsuc, inl, inr, ◌⊎◌}
 use Rattle.std.specs.Prelude.{codes}
 use Rattle.vm_model.specs.declared.limits.TheConstants.{MOST_LOCALS}
+use Rattle.vm_model.specs.Failures.{◌>>=◌, or_fault}
 use Rattle.jasmin_lines.specs.declared.class_text.Operand.{Operand}
 use Rattle.jasmin_lines.specs.declared.class_text.Operand.TheVariants as operand
 use Rattle.jasmin_lines.specs.declared.fault.ReadKind.{ReadKind}
@@ -12,7 +13,6 @@ use Rattle.jasmin_lines.specs.declared.mnemonic.Access.{Access}
 use Rattle.jasmin_lines.specs.declared.mnemonic.Access.TheVariants as access
 use Rattle.jasmin_lines.specs.declared.mnemonic.Mnemonic.{Mnemonic}
 use Rattle.jasmin_lines.specs.declared.mnemonic.Mnemonic.TheVariants as mnemonic
-use Rattle.jasmin_lines.specs.Faults.{◌>>=◌, or_fault}
 use Rattle.jasmin_lines.specs.Instructions.{alone, pushed, access_word, on_local, is_int, constant_of, constant, push, local, increment, jump, field, call, class, array, said_by, instruction}
 use Rattle.jasmin_lines.specs.Mnemonics.{mnemonic_of}
 use Rattle.jasmin_lines.specs.Said.{PlainSaid}

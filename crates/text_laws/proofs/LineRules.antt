@@ -2,13 +2,14 @@
 use Rattle.std.proofs.Common.{◌≡◌, ◌≢◌, ℕ, ◌≤◌, ◌<◌, Bool, true, false, not, ◌&&◌, ◌||◌, List, [], ◌∷◌, Option, Some, None, Result, Ok, Err, refl, arith, ap, sym, ◌∙◌, subst, cond}
 use Rattle.std.specs.Prelude.{bytes_eq, codes}
 use Rattle.std.specs.List.{list_any}
+use Rattle.vm_model.specs.Failures.{◌>>=◌}
 use Rattle.jasmin_lines.specs.declared.fault.ReadKind.{ReadKind}
 use Rattle.jasmin_lines.specs.declared.fault.ReadKind.TheVariants.{NoClass, OutsideMethod, InMethod, NoSuper, LabelTwice, EndMissing, Repeat}
 use Rattle.jasmin_lines.specs.declared.form.Form.{Form}
 use Rattle.jasmin_lines.specs.declared.form.Form.TheVariants as form
 use Rattle.jasmin_lines.specs.declared.lexeme.Lexeme.{Lexeme}
 use Rattle.jasmin_lines.specs.declared.lexeme.Lexeme.TheVariants as lexeme
-use Rattle.jasmin_lines.specs.Faults.{kind_number, ◌>>=◌}
+use Rattle.jasmin_lines.specs.Faults.{kind_number}
 use Rattle.jasmin_reader.specs.Grammar.{PlainState, only_if, outside_methods, inside_method, lacks_super, has_label, misplaced, may_stand_first, is_end, is_end_of, placed, form_among}
 use Rattle.jasmin_lines.specs.Lexemes.{PlainLine}
 use Rattle.jasmin_lines.specs.Words.{is_word}

@@ -7,12 +7,12 @@ use Rattle.jasmin_lines.specs.declared.fault.ReadKind.TheVariants.{NoClass, NoSu
 use Rattle.jasmin_reader.specs.declared.fault.Refusal.{Refusal}
 use Rattle.jasmin_lines.specs.declared.form.Form.{Form}
 use Rattle.jasmin_reader.specs.Assembly.{classes_of}
-use Rattle.jasmin_lines.specs.Faults.{◌>>=◌}
 use Rattle.jasmin_reader.specs.Grammar.{PlainState, nothing_begun, next_state, lacks_super, may_stand_first, misplaced, is_end, placed, form_among}
 use Rattle.jasmin_lines.specs.Lexemes.{PlainLine, lines_after}
 use Rattle.jasmin_lines.specs.Plain.{PlainClassText}
 use Rattle.jasmin_reader.specs.Reading.{at_line, forms_after, last_line, reading}
 use Rattle.std.specs.List.{list_any}
+use Rattle.vm_model.specs.Failures.{◌>>=◌}
 use Rattle.text_laws.specs.LineFaults.{form_alone, form_if, forms_alone, begun_after, fault_of, faults_behind, line_faults, IsFirst}
 
 -- ---- a line that is well placed has its form

@@ -1,12 +1,12 @@
 -- Forms whose lines fit one after the other are read from their own lines.
 use Rattle.std.proofs.Common.{◌≡◌, ℕ, ◌+◌, Bool, true, false, not, ◌&&◌, List, [], ◌∷◌, Option, None, Result, Ok, Err, map, cond, refl, ap, sym, ◌∙◌, subst}
 use Rattle.std.specs.List.{AllByRecursion, list_any}
+use Rattle.vm_model.specs.Failures.{◌>>=◌}
 use Rattle.jasmin_lines.specs.declared.fault.ReadKind.{ReadKind}
 use Rattle.jasmin_lines.specs.declared.fault.ReadKind.TheVariants.{NoClass, NoSuper, EndMissing}
 use Rattle.jasmin_reader.specs.declared.fault.Refusal.{Refusal}
 use Rattle.jasmin_lines.specs.declared.form.Form.{Form}
 use Rattle.jasmin_lines.specs.declared.form.Form.TheVariants as form
-use Rattle.jasmin_lines.specs.Faults.{◌>>=◌}
 use Rattle.jasmin_lines.specs.Lexemes.{PlainLine}
 use Rattle.jasmin_lines.specs.Forms.{form_of}
 use Rattle.jasmin_reader.specs.Grammar.{PlainState, next_state, only_if, outside_methods, lacks_super, misplaced, may_stand_first, is_end, placed, form_among}

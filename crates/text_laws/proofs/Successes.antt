@@ -4,11 +4,11 @@ use Rattle.std.specs.Prelude.{◌&&◌, slice_get, bytes_eq, int_le}
 use Rattle.std.proofs.Math.Seq.{take-append_seam}
 use Rattle.std.proofs.lemmas.List.{length-append}
 use Rattle.std.proofs.lemmas.Slice.Eq.{bytes_eq-Decides}
+use Rattle.vm_model.specs.Failures.{◌>>=◌}
 use Rattle.jasmin_lines.specs.declared.fault.ReadKind.{ReadKind}
 use Rattle.jasmin_lines.specs.declared.fault.ReadKind.TheVariants.{BadOperand}
 use Rattle.jasmin_lines.specs.declared.lexeme.Lexeme.{Lexeme}
 use Rattle.jasmin_lines.specs.declared.lexeme.Lexeme.TheVariants as lexeme
-use Rattle.jasmin_lines.specs.Faults.{◌>>=◌}
 use Rattle.jasmin_lines.specs.Words.{one, two, none, word_of, in_range, number_of, is_word, named, is_class_name, is_name, name_of, class_name_of}
 use Rattle.jasmin_lines.specs.Directives.{with_last, split_last}
 use Rattle.text_laws.specs.OfText.{is_text, IsFound, AreFound}

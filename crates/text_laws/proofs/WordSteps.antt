@@ -2,11 +2,11 @@
 use Rattle.std.proofs.Common.{◌≡◌, ℕ, ◌-◌, Bool, true, false, ◌&&◌, List, [], ◌∷◌, Option, Some, None, Result, Ok, Err, length, take, drop, refl, ap, sym, ◌∙◌, subst, cond, nat_eq, position, ℤ, inl, inr, ◌⊎◌}
 use Rattle.std.specs.Prelude.{Contains, slice_get, int_le}
 use Rattle.std.specs.List.{list_any, list_all, filter}
+use Rattle.vm_model.specs.Failures.{◌>>=◌}
 use Rattle.jasmin_lines.specs.declared.fault.ReadKind.{ReadKind}
 use Rattle.jasmin_lines.specs.declared.fault.ReadKind.TheVariants.{BadOperand, BadName}
 use Rattle.jasmin_lines.specs.declared.lexeme.Lexeme.{Lexeme}
 use Rattle.jasmin_lines.specs.declared.lexeme.Lexeme.TheVariants as lexeme
-use Rattle.jasmin_lines.specs.Faults.{◌>>=◌}
 use Rattle.jasmin_lines.specs.Words.{none, one, two, word_of, in_range, number_of, is_word, named, last_slash, is_member_at, is_member, split_at, described, flags_of}
 use Rattle.jasmin_lines.specs.Directives.{with_last, split_last}
 use Rattle.text_laws.specs.WordRules.{AreFlags, AreKept, HasFlags, IsFrom}

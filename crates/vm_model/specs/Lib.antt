@@ -1,3 +1,4 @@
 pub mod Ends
 pub mod Program
 pub mod Plain
+pub mod Failures

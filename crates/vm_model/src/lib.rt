@@ -20,7 +20,7 @@ pub use limits::{
     MOST_OBJECTS, MOST_OPERANDS, MOST_OUTPUT_BYTES, MOST_PARAMETERS, MOST_STATICS, MOST_SWITCHES,
     MOST_TESTS, MOST_TEXT_BYTES, MOST_TEXT_CONSTANT_BYTES, MOST_THREADS, MOST_TRIES, MOST_WORKERS,
 };
-pub use memory::NoMemory;
+pub use memory::{Failure, NoMemory};
 pub use name::Name;
 pub use op::{Entry, Op, Piece, Reply};
 pub use plain::Plain;

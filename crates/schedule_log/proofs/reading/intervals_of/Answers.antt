@@ -1,9 +1,9 @@
 use Rattle.std.proofs.Common.{◌≡◌, ◌+◌, ◌<◌, ◌++◌, ◌∷◌, [], Ok, ◌∙◌, take, arith}
 use Rattle.std.specs.List.{AllByRecursion}
 use Rattle.std.proofs.lemmas.Result.{err_from_is_err_and}
+use Rattle.vm_model.specs.Failures.{Fails}
 use Rattle.schedule_log.specs.declared.interval.Interval.{Interval}
 use Rattle.schedule_log.specs.Logs.{put_all}
-use Rattle.schedule_log.specs.Readers.{Fails}
 use Rattle.schedule_log.specs.Reading.{interval_at, intervals_at}
 use Rattle.schedule_log.proofs.Placed.{all_weaken}
 use Rattle.schedule_log.proofs.Cursor.{interval_same, put_all_push, all_push, apart_push}

@@ -1,6 +1,6 @@
 use Rattle.std.proofs.Common.{◌≡◌, ◌+◌, ◌-◌, [], Ok, cond, eqb}
 use Rattle.std.proofs.lemmas.Result.{err_from_is_err_and}
-use Rattle.schedule_log.specs.Readers.{Fails}
+use Rattle.vm_model.specs.Failures.{Fails}
 use Rattle.schedule_log.specs.Reading.{thread_at, threads_at}
 use Rattle.schedule_log.proofs.Cursor.{thread_apart}
 use Rattle.schedule_log.proofs.Loops.{threads_go_on, threads_end, threads_done, least_last, least_other}

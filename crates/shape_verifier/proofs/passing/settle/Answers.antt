@@ -1,6 +1,7 @@
 use Rattle.std.proofs.Common.{◌≡◌, ◌<◌, length, Ok, Err, sym, subst, ◌∙◌, arith, rules}
 use Rattle.std.specs.Prelude.{Result}
-use Rattle.shape_verifier.specs.declared.passing.PassError.{PassError}
+use Rattle.vm_model.specs.declared.memory.Failure.{Failure}
+use Rattle.shape_verifier.specs.declared.fault.Refusal.{Refusal}
 use Rattle.shape_verifier.specs.Turning.{SettledSo}
 use Rattle.shape_verifier.proofs.Settling.{settled, stopped, taken, turn_keeps, turn_lower}
 use Rattle.shape_verifier.proofs.Turns.{leads_on}
@@ -40,7 +41,7 @@ pub returns-in_err-from : goal.returns-in_err-from
 returns-in_err-from c =
     let t = taken c.args.program.now c.args.number c.args.method.now c.turns.state c.take_new.new.state c.in_ok-place.field-0 c.in-Some.place c.in-Some.shape c.turns.invariant.within c.in_ok-place.ensures c.in-Some.is in
     let is : c.from_residual-in_err-from.result ≡ Err c.in_err-from.field-0.0 = search rules in
-    subst (λ (r : Result (Unit {0}) PassError). SettledSo r c.args.program.now c.args.number c.args.method.now c.args.state.now c.turn.new.state) (sym is)
+    subst (λ (r : Result (Unit {0}) (Failure Refusal)). SettledSo r c.args.program.now c.args.number c.args.method.now c.args.state.now c.turn.new.state) (sym is)
     (stopped c.args.program.now c.args.number c.args.method.now c.args.state.now c.turns.state c.take_new.new.state c.turn.new.state c.in-Some.place c.in-Some.shape c.in_err-from.field-0.0 c.turns.invariant.leads t c.in_err-from.ensures)
 
 pub returns : goal.returns
