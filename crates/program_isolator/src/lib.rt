@@ -6,6 +6,3 @@ mod refusal;
 
 pub use program::{end_of_run, isolate_program};
 pub use refusal::IsolationRefusal;
-
-#[cfg(test)]
-mod tests;

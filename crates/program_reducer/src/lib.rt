@@ -6,6 +6,3 @@ mod refusal;
 
 pub use program::reduce_program;
 pub use refusal::ReductionRefusal;
-
-#[cfg(test)]
-mod tests;

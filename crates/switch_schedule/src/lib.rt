@@ -15,8 +15,3 @@ pub use reading::read_schedule;
 pub use run::{Ran, run_schedule};
 pub use search::{Sought, seek};
 pub use writing::write_schedule;
-
-#[cfg(test)]
-mod file_tests;
-#[cfg(test)]
-mod run_tests;

@@ -1,150 +1,15 @@
-//! Two threads that each add 1 to a static with no lock, and are joined; then an `Error` is thrown where the static isn't 2.
-//! With a switch before event 5 an addition is lost.
+// What is isolated between schedules of two writers, and how the tests of a search count.
+ghost use Rattle.std.specs.Prelude.{◌≡◌, ◌≤◌, All, IfOk, length};
+ghost use Rattle.vm_model.specs.declared.limits.TheConstants.{MOST_SWITCHES};
 
-ghost use Rattle.std.specs.Prelude.{◌≡◌, ◌≤◌, None, All, IsTrue, IfOk, length};
-ghost use Rattle.machine_model.specs.Machine.{end_of, start_machine};
-
-use crate::{IsolationRefusal, isolate_program};
-use event_machine::Machine;
+use crate::writers::{LOST, begins, schedule, two_writers};
 use outcome_test::{SerialRounds, WideRounds};
+use program_isolator::{IsolationRefusal, isolate_program};
 use schedule_model::{Found, Isolated, Outcome, Rounds, Schedule};
 use std::alloc::Global;
 use std::test::Fail;
 use std::thread::Threads;
-use vm_model::{
-    Class, End, Fault, FaultKind, Instr, Kind, Method, Name, NoMemory, Plain, Program, StaticSlot,
-    Value,
-};
-
-const MAIN: [Instr; 24] = [
-    Instr::New(32),
-    Instr::Dup,
-    Instr::InvokeSpecial(1),
-    Instr::Astore(1),
-    Instr::New(32),
-    Instr::Dup,
-    Instr::InvokeSpecial(1),
-    Instr::Astore(2),
-    Instr::Aload(1),
-    Instr::Start,
-    Instr::Aload(2),
-    Instr::Start,
-    Instr::Aload(1),
-    Instr::Join,
-    Instr::Aload(2),
-    Instr::Join,
-    Instr::GetStatic(0),
-    Instr::Push(2),
-    Instr::IfIcmpeq(23),
-    Instr::New(8),
-    Instr::Dup,
-    Instr::Init {
-        class: 8,
-        text: false,
-    },
-    Instr::Athrow,
-    Instr::Return,
-];
-
-const INIT: [Instr; 3] = [
-    Instr::Aload(0),
-    Instr::Init {
-        class: 1,
-        text: false,
-    },
-    Instr::Return,
-];
-
-const RUN: [Instr; 5] = [
-    Instr::GetStatic(0),
-    Instr::Push(1),
-    Instr::Iadd,
-    Instr::PutStatic(0),
-    Instr::Return,
-];
-
-/// The fault of a run that lost an addition.
-const LOST: Fault = Fault {
-    kind: FaultKind::Thrown(8),
-    thread: 0,
-    method: 0,
-    at: 22,
-};
-
-fn method_of(
-    alloc: Global,
-    name: &[u8],
-    params: &[Kind],
-    is_static: bool,
-    code: &[Instr],
-) -> Result<Method, NoMemory>
-    requires { length code.now ≤ 64 }
-    ensures { IfOk result (λ m. length m.code ≤ 64) }
-{
-    Ok(Method {
-        class: 32,
-        name: Name::of(alloc, name)?,
-        params: Vec::from_slice(alloc, params)?,
-        gives: None,
-        is_static,
-        is_synchronized: false,
-        max_stack: None,
-        max_locals: None,
-        code: Vec::from_slice(alloc, code)?,
-    })
-}
-
-fn two_writers(alloc: Global) -> Result<Plain, NoMemory> {
-    let mut methods = Vec::new(alloc);
-    methods.push(method_of(alloc, b"main", &[Kind::Args], true, &MAIN)?)?;
-    methods.push(method_of(alloc, b"<init>", &[], false, &INIT)?)?;
-    methods.push(method_of(alloc, b"run", &[], false, &RUN)?)?;
-    let mut classes = Vec::new(alloc);
-    classes.push(Class {
-        name: Name::of(alloc, b"W")?,
-        is_thread: true,
-        is_runnable: false,
-        fields: Vec::new(alloc),
-        run: Some(2),
-    })?;
-    let mut statics = Vec::new(alloc);
-    statics.push(static_of(alloc)?)?;
-    Ok(Plain::of(Program {
-        classes,
-        methods,
-        statics,
-        texts: Vec::new(alloc),
-        main: 0,
-    }))
-}
-
-fn static_of(alloc: Global) -> Result<StaticSlot, NoMemory> {
-    Ok(StaticSlot {
-        class: 32,
-        name: Name::of(alloc, b"n")?,
-        kind: Kind::Int,
-        start: Value::Int(0),
-    })
-}
-
-fn schedule(alloc: Global, times: &[u32]) -> Result<Schedule, NoMemory>
-    requires { length times.now ≤ 8 }
-    ensures { IfOk result (λ s. length s ≤ 8) }
-{
-    Ok(Schedule {
-        times: Vec::from_slice(alloc, times)?,
-    })
-}
-
-/// The program makes an event under this budget.
-fn begins(alloc: Global, plain: &Plain, events: u64) -> Result<bool, NoMemory>
-    requires some { 1 ≤ events }
-    requires limit { events ≤ 1048576 }
-    ensures { IfOk result (λ b. IsTrue b → end_of plain.now (start_machine plain.now) events ≡ None) }
-{
-    let machine = Machine::new(alloc, plain, events)?;
-    Ok(machine.end().is_none())
-}
+use vm_model::{End, Fault, MOST_EVENTS, NoMemory};
 
 /// What is isolated between two schedules.
 fn isolated<H: Threads + Sync>(
@@ -156,9 +21,9 @@ fn isolated<H: Threads + Sync>(
     workers: u32,
 ) -> Result<Isolated, IsolationRefusal>
     requires some { 1 ≤ events }
-    requires limit { events ≤ 1048576 }
-    requires pass { length times.0.now ≤ 8 }
-    requires fail { length times.1.now ≤ 8 }
+    requires limit { events ≤ MOST_EVENTS }
+    requires pass { length times.0.now ≤ MOST_SWITCHES }
+    requires fail { length times.1.now ≤ MOST_SWITCHES }
 {
     let plain = two_writers(alloc)?;
     let pass = schedule(alloc, times.0)?;
@@ -180,8 +45,8 @@ fn finds<H: Threads + Sync>(
     asked: u64,
 ) -> bool
     requires some { 1 ≤ events }
-    requires limit { events ≤ 1048576 }
-    requires few { length pass.now ≤ 8 }
+    requires limit { events ≤ MOST_EVENTS }
+    requires few { length pass.now ≤ MOST_SWITCHES }
 {
     match isolated(rt, alloc, (pass, &[5]), events, asked, workers) {
         Ok(found) => {
@@ -201,9 +66,9 @@ fn finds<H: Threads + Sync>(
 fn one_switch_is_found(rt: HostRuntime) -> Result<(), Fail> {
     let alloc = rt.alloc();
     for workers in [1, 2, 16] {
-        assert!(rt; finds(&rt, alloc, &[9], 1048576, workers, 2));
+        assert!(rt; finds(&rt, alloc, &[9], MOST_EVENTS, workers, 2));
         assert!(rt; finds(&rt, alloc, &[], 20, workers, 4));
-        assert!(rt; finds(&rt, alloc, &[6], 1048576, workers, 0));
+        assert!(rt; finds(&rt, alloc, &[6], MOST_EVENTS, workers, 0));
     }
     Ok(())
 }
@@ -211,7 +76,7 @@ fn one_switch_is_found(rt: HostRuntime) -> Result<(), Fail> {
 #[test]
 fn refusals_are_told(rt: HostRuntime) -> Result<(), Fail> {
     let alloc = rt.alloc();
-    let n = 1048576;
+    let n = MOST_EVENTS;
     assert!(rt;
         matches!(
             isolated(&rt, alloc, (&[9], &[5]), n, 1, 1),
@@ -240,7 +105,7 @@ fn refusals_are_told(rt: HostRuntime) -> Result<(), Fail> {
 /// Three schedules of one time each.
 fn three(alloc: Global, times: (u32, u32, u32)) -> Result<Vec<Schedule>, NoMemory>
     ensures count { IfOk result (λ tests. length tests.items ≡ 3) }
-    ensures sizes { IfOk result (λ tests. All (λ test. length test ≤ 16384) tests.items) }
+    ensures sizes { IfOk result (λ tests. All (λ test. length test ≤ MOST_SWITCHES) tests.items) }
 {
     let mut tests = Vec::new(alloc);
     tests.push(schedule(alloc, &[times.0])?)?;
@@ -310,7 +175,7 @@ fn tests_count_in_order(rt: HostRuntime) -> Result<(), Fail> {
 /// How many events four tests of one time each make, one after another, where each of them passes.
 fn turns_of(alloc: Global, times: [u32; 4], events: u64) -> Result<Option<u64>, NoMemory>
     requires some { 1 ≤ events }
-    requires limit { events ≤ 1048576 }
+    requires limit { events ≤ MOST_EVENTS }
 {
     let plain = two_writers(alloc)?;
     if !begins(alloc, &plain, events)? {

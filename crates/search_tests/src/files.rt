@@ -1,11 +1,9 @@
 // Schedule files byte by byte.
-use crate::{ScheduleFault, ScheduleKind, read_schedule, write_schedule};
 use schedule_model::Schedule;
 use std::alloc::Global;
 use std::test::Fail;
-
-/// The greatest number of events of a run.
-const MOST: u64 = 1_048_576;
+use switch_schedule::{ScheduleFault, ScheduleKind, read_schedule, write_schedule};
+use vm_model::MOST_EVENTS;
 
 /// The times that these bytes spell.
 fn times(alloc: Global, bytes: &[u8], events: u64) -> Result<Vec<u32>, ScheduleFault> {
@@ -25,16 +23,16 @@ fn refused(alloc: Global, bytes: &[u8], events: u64) -> Option<(u8, u64)> {
 fn lines_that_are_wrong(rt: HostRuntime) -> Result<(), Fail> {
     let alloc = rt.alloc();
     let cases: [(&[u8], u64, ScheduleKind, u64); 12] = [
-        (b"7", MOST, ScheduleKind::Trailing, 0),
-        (b"7\n7", MOST, ScheduleKind::Trailing, 2),
-        (b"07\n", MOST, ScheduleKind::BadNumber, 0),
-        (b"\n", MOST, ScheduleKind::BadNumber, 0),
-        (b"-1\n", MOST, ScheduleKind::BadNumber, 0),
-        (b"+1\n", MOST, ScheduleKind::BadNumber, 0),
-        (b"00000007\n", MOST, ScheduleKind::BadNumber, 0),
-        (b"10000000\n", MOST, ScheduleKind::BadNumber, 0),
-        (b"12\n1 2\n", MOST, ScheduleKind::BadNumber, 3),
-        (b"1048577\n", MOST, ScheduleKind::PastBudget, 0),
+        (b"7", MOST_EVENTS, ScheduleKind::Trailing, 0),
+        (b"7\n7", MOST_EVENTS, ScheduleKind::Trailing, 2),
+        (b"07\n", MOST_EVENTS, ScheduleKind::BadNumber, 0),
+        (b"\n", MOST_EVENTS, ScheduleKind::BadNumber, 0),
+        (b"-1\n", MOST_EVENTS, ScheduleKind::BadNumber, 0),
+        (b"+1\n", MOST_EVENTS, ScheduleKind::BadNumber, 0),
+        (b"00000007\n", MOST_EVENTS, ScheduleKind::BadNumber, 0),
+        (b"10000000\n", MOST_EVENTS, ScheduleKind::BadNumber, 0),
+        (b"12\n1 2\n", MOST_EVENTS, ScheduleKind::BadNumber, 3),
+        (b"1048577\n", MOST_EVENTS, ScheduleKind::PastBudget, 0),
         (b"21\n", 20, ScheduleKind::PastBudget, 0),
         (b"20\n3\n21\n07\n", 20, ScheduleKind::PastBudget, 5),
     ];
@@ -52,7 +50,7 @@ fn lines_of_times(rt: HostRuntime) -> Result<(), Fail> {
     let alloc = rt.alloc();
     let none = times(alloc, b"", 1)?;
     assert_eq!(rt; none.as_slice(), [].as_slice());
-    let some = times(alloc, b"0\n1048576\n7\n7\n", MOST)?;
+    let some = times(alloc, b"0\n1048576\n7\n7\n", MOST_EVENTS)?;
     assert_eq!(rt; some.as_slice(), [0, 1048576, 7, 7].as_slice());
     Ok(())
 }
