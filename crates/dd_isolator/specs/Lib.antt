@@ -4,6 +4,5 @@ pub mod Rounds
 pub mod Following
 pub mod Search
 pub mod Laws
-pub mod MadeUp
 pub mod Answers
 pub mod StateView

@@ -12,6 +12,3 @@ mod state;
 pub use batches::{MOST_IN_BATCH, NumberedTests, batch};
 pub use fault::IsolateFault;
 pub use search::isolate;
-
-#[cfg(test)]
-mod tests;

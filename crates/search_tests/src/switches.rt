@@ -1,66 +1,15 @@
-//! The reducer on made-up runs, of which one fails where a switch stands before event 5.
+//! The reducer on made-up runs.
 
-ghost use Rattle.std.specs.Prelude.{◌≡◌};
-ghost use Rattle.dd_isolator.specs.MadeUp.{none_unresolved, outcome_at_five, reads_five};
-
-use crate::{ReduceFault, Reduced, reduce};
-use schedule_model::{Found, Outcome, Rounds, Schedule};
+use crate::made_up::{FailsAtFive, shows};
+use schedule_model::{Outcome, Schedule};
 use std::alloc::Global;
 use std::test::Fail;
-use vm_model::NoMemory;
-
-/// Rounds of such runs, of which none is unresolved.
-#[derive(Drop)]
-struct FailsAtFive {
-    asked: u64,
-}
-
-fn shows(schedule: &Schedule) -> Outcome
-    ensures { result ≡ outcome_at_five schedule.now }
-{
-    if schedule.times.contains(&5) {
-        Outcome::Fail
-    } else {
-        Outcome::Pass
-    }
-}
-
-impl Rounds for FailsAtFive {
-    ghost outcome = { λ s. outcome_at_five };
-
-    ghost events = { λ s. 20 };
-
-    ghost asked = { λ s. s.asked };
-
-    ghost unresolved = { λ s. 0 };
-
-    ghost reads_counts = { λ s. reads_five };
-
-    ghost unresolved_counted = { λ s. none_unresolved s.asked };
-
-    fn first_resolved(&mut self, _alloc: Global, tests: &[Schedule]) -> Result<Found, NoMemory> {
-        if tests.is_empty() {
-            return Ok(Found::NoneResolved);
-        }
-        self.asked += 1;
-        Ok(Found::Resolved {
-            at: 0,
-            outcome: shows(&tests[0]),
-        })
-    }
-
-    fn asked(&self) -> u64 {
-        self.asked
-    }
-
-    fn unresolved(&self) -> u64 {
-        0
-    }
-}
+use switch_reducer::{ReduceFault, Reduced, reduce};
+use vm_model::MOST_SWITCHES;
 
 /// What a failing schedule is reduced to; nothing where it doesn't fail.
 fn reduced(alloc: Global, times: &[u32], budget: u64) -> Result<Option<Reduced>, ReduceFault> {
-    if 16384 < times.len() {
+    if MOST_SWITCHES < times.len() {
         return Ok(None);
     }
     let Ok(times) = times.to_vec(alloc) else {

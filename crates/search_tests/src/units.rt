@@ -1,62 +1,11 @@
-//! The isolator on made-up runs, of which one fails where a switch stands before event 5.
+//! The isolator on made-up runs.
 
-ghost use Rattle.std.specs.Prelude.{◌≡◌};
-ghost use Rattle.dd_isolator.specs.MadeUp.{none_unresolved, outcome_at_five, reads_five};
-
-use crate::{IsolateFault, isolate};
-use schedule_model::{Found, Isolated, Outcome, Rounds, Schedule};
+use crate::made_up::{FailsAtFive, shows};
+use dd_isolator::{IsolateFault, isolate};
+use schedule_model::{Isolated, Outcome, Schedule};
 use std::alloc::Global;
 use std::test::Fail;
-use vm_model::NoMemory;
-
-/// Rounds of such runs, of which none is unresolved.
-#[derive(Drop)]
-struct FailsAtFive {
-    asked: u64,
-}
-
-fn shows(schedule: &Schedule) -> Outcome
-    ensures { result ≡ outcome_at_five schedule.now }
-{
-    if schedule.times.contains(&5) {
-        Outcome::Fail
-    } else {
-        Outcome::Pass
-    }
-}
-
-impl Rounds for FailsAtFive {
-    ghost outcome = { λ s. outcome_at_five };
-
-    ghost events = { λ s. 20 };
-
-    ghost asked = { λ s. s.asked };
-
-    ghost unresolved = { λ s. 0 };
-
-    ghost reads_counts = { λ s. reads_five };
-
-    ghost unresolved_counted = { λ s. none_unresolved s.asked };
-
-    fn first_resolved(&mut self, _alloc: Global, tests: &[Schedule]) -> Result<Found, NoMemory> {
-        if tests.is_empty() {
-            return Ok(Found::NoneResolved);
-        }
-        self.asked += 1;
-        Ok(Found::Resolved {
-            at: 0,
-            outcome: shows(&tests[0]),
-        })
-    }
-
-    fn asked(&self) -> u64 {
-        self.asked
-    }
-
-    fn unresolved(&self) -> u64 {
-        0
-    }
-}
+use vm_model::MOST_SWITCHES;
 
 /// What is isolated between two schedules; nothing where the first doesn't pass or the second doesn't fail.
 fn isolated(
@@ -65,7 +14,7 @@ fn isolated(
     fail: &[u32],
     budget: u64,
 ) -> Result<Option<Isolated>, IsolateFault> {
-    if 16384 < pass.len() || 16384 < fail.len() {
+    if MOST_SWITCHES < pass.len() || MOST_SWITCHES < fail.len() {
         return Ok(None);
     }
     let Ok(times) = pass.to_vec(alloc) else {
