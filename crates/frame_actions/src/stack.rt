@@ -31,6 +31,14 @@ impl Stack {
         }
     }
 
+    /// Takes all operands away, and keeps the room. It takes no memory.
+    pub fn clear(&mut self)
+        ensures values { self.new.values ≡ [] }
+        ensures room { self.new.room ≡ self.old.room }
+    {
+        self.values.clear();
+    }
+
     /// Makes room for two more operands, which is the most that one instruction adds.
     pub fn reserve(&mut self) -> Result<(), NoMemory>
         ensures values { self.new.values ≡ self.old.values }

@@ -101,6 +101,16 @@ part_added p old new lane t clock o r before after sees adds is asks state ready
 pub only_added : (t lane clock : ℕ) (o : Op) (r : Reply) (old new : SeatView) → new.lanes ≡ old.lanes → SeesMore old new → old.tries ≤ new.tries → Adds lane clock t o r old new → IsOnlyOf t lane old new
 only_added t lane clock o r old new lanes sees tries adds = record { lanes = lanes; sees = sees; others = λ u apart. other_added t u clock o r (old.own lane) (new.own lane) adds.added apart; other_lanes = adds.others; tries = tries }
 
+-- two calls on behalf of the same thread
+pub only_then : (t lane : ℕ) (old mid new : SeatView) → IsOnlyOf t lane old mid → IsOnlyOf t lane mid new → IsOnlyOf t lane old new
+only_then t lane old mid new first second = record {
+  lanes = second.lanes ∙ first.lanes;
+  sees = λ u target e. second.sees u target (first.sees u target e);
+  others = λ u apart. second.others u apart ∙ first.others u apart;
+  other_lanes = λ other apart. second.other_lanes other apart ∙ first.other_lanes other apart;
+  tries = omega (arith, first.tries, second.tries);
+}
+
 -- ---- clocks
 
 below_more : (clock n : ℕ) (ns : List ℕ) → n < clock → All (λ m. m < clock) ns → All (λ m. m < clock) (n ∷ ns)

@@ -8,7 +8,7 @@ ghost use Rattle.machine_model.specs.LocalStep.{begun_in, class_of, first_of_mai
 ghost use Rattle.local_machine.specs.Further.{IsAtRest, IsFurther};
 ghost use Rattle.local_machine.specs.LocalView.{IsReady, absorbed_by, advanced, fresh};
 
-use crate::calls::first_frame;
+use crate::calls::{first_frame, no_spares};
 use crate::completion::Ready;
 use crate::copy::{copy_completion, copy_frames};
 use crate::phase::Phase;
@@ -20,12 +20,13 @@ use std::marker::Model;
 use vm_model::{Lock, NoMemory, ObjRef, Op, Plain, Program, Reply, Value};
 
 /// One thread by itself: its frames, how many steps it made since the last reply, and the operation that it asks for once that
-/// is reached.
+/// is reached. Frames that are done are kept for the room that they have, and are no part of its value.
 #[derive(Drop)]
 pub struct Local {
     phase: Phase,
     top: Frame,
     below: Vec<Frame>,
+    spares: Vec<Frame>,
     steps: u32,
     ready: Option<Ready>,
 }
@@ -53,13 +54,15 @@ impl Local {
     ) -> Result<Local, NoMemory>
         ensures { IfOk result (λ l. l ≡ fresh (begun_in program.now method arguments.now lock)) }
     {
-        let top = first_frame(alloc, program, method, arguments, lock)?;
+        let mut spares = no_spares(alloc)?;
+        let top = first_frame(alloc, program, method, arguments, lock, &mut spares)?;
         let below = Vec::new(alloc);
         match lock {
             Some(_) => Ok(Local {
                 phase: Phase::Entering,
                 top,
                 below,
+                spares,
                 steps: 0,
                 ready: None,
             }),
@@ -67,6 +70,7 @@ impl Local {
                 phase: Phase::Plain,
                 top,
                 below,
+                spares,
                 steps: 0,
                 ready: None,
             }),
@@ -158,6 +162,7 @@ impl Local {
             self.phase,
             &mut self.top,
             &mut self.below,
+            &mut self.spares,
             &mut self.steps,
         )?;
         Ok(())
@@ -181,6 +186,7 @@ impl Local {
             &mut self.phase,
             &mut self.top,
             &mut self.below,
+            &mut self.spares,
         );
     }
 
@@ -190,6 +196,7 @@ impl Local {
     {
         let top = self.top.copy(alloc)?;
         let below = copy_frames(alloc, self.below.as_slice())?;
+        let spares = no_spares(alloc)?;
         let phase = self.phase;
         let steps = self.steps;
         match &self.ready {
@@ -200,6 +207,7 @@ impl Local {
                     phase,
                     top,
                     below,
+                    spares,
                     steps,
                     ready: Some(Ready { op, completion }),
                 })
@@ -208,6 +216,7 @@ impl Local {
                 phase,
                 top,
                 below,
+                spares,
                 steps,
                 ready: None,
             }),

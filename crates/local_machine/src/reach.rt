@@ -61,6 +61,7 @@ fn prepare(
     acted: Acted,
     top: &Frame,
     below: &mut Vec<Frame>,
+    spares: &mut Vec<Frame>,
 ) -> Result<Ready, NoMemory>
     requires { Stands acted top.now }
     ensures op { IfOk result (λ r. r.op ≡ wanted acted (plain top.now) (length below.old.items)) }
@@ -77,7 +78,7 @@ fn prepare(
             let op = Some(wanted_by_call(lock, top, below.len() < MOST_FRAMES - 1));
             let taken = arity_at(program, method);
             let arguments = top.stack.arguments(taken);
-            let callee = first_frame(alloc, program, method, arguments, lock)?;
+            let callee = first_frame(alloc, program, method, arguments, lock, spares)?;
             let Ok(callee) = Box::new(alloc, callee) else {
                 return Err(NoMemory);
             };
@@ -117,6 +118,7 @@ fn prepare_waiting(
     count: u32,
     top: &mut Frame,
     below: &mut Vec<Frame>,
+    spares: &mut Vec<Frame>,
 ) -> Result<Ready, NoMemory>
     requires small { IsSmall program.now }
     requires few { length program.now.methods ≤ MOST_TEXT_BYTES }
@@ -127,7 +129,7 @@ fn prepare_waiting(
     ensures below { callers below.new.items ≡ callers below.old.items }
 {
     let acted = look(alloc, program, top)?;
-    let ready = prepare(alloc, program, acted, top, below)?;
+    let ready = prepare(alloc, program, acted, top, below, spares)?;
     let op = Some(Op::Resume { lock, count });
     let completion = ready.completion;
     Ok(Ready { op, completion })
@@ -140,6 +142,7 @@ pub fn reach(
     phase: Phase,
     top: &mut Frame,
     below: &mut Vec<Frame>,
+    spares: &mut Vec<Frame>,
     steps: &mut u32,
 ) -> Result<Option<Ready>, NoMemory>
     requires small { IsSmall program.now }
@@ -155,12 +158,12 @@ pub fn reach(
 {
     match phase {
         Phase::Plain => {
-            let acted = settle(alloc, program, top, below, steps)?;
-            let ready = prepare(alloc, program, acted, top, below)?;
+            let acted = settle(alloc, program, top, below, spares, steps)?;
+            let ready = prepare(alloc, program, acted, top, below, spares)?;
             Ok(Some(ready))
         }
         Phase::Waiting { lock, count } => {
-            let ready = prepare_waiting(alloc, program, lock, count, top, below)?;
+            let ready = prepare_waiting(alloc, program, lock, count, top, below, spares)?;
             Ok(Some(ready))
         }
         Phase::Entering => {

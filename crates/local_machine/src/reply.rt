@@ -54,6 +54,7 @@ pub fn complete(
     phase: &mut Phase,
     top: &mut Frame,
     below: &mut Vec<Frame>,
+    spares: &mut Vec<Frame>,
 )
     requires room { HasRoomFor completion top.old below.old.items (vec_len below.old) (vec_capacity below.old) }
     requires below { AreAtCalls (callers below.old.items) }
@@ -76,7 +77,7 @@ pub fn complete(
             *phase = Phase::Plain;
         }
         Completion::Gives(given) => {
-            if give_back(given, top, below) {
+            if give_back(given, top, below, spares) {
                 *phase = Phase::Plain;
             } else {
                 *phase = Phase::Left;
@@ -92,6 +93,7 @@ pub fn answer(
     phase: &mut Phase,
     top: &mut Frame,
     below: &mut Vec<Frame>,
+    spares: &mut Vec<Frame>,
 )
     requires room { HasRoomFor completion top.old below.old.items (vec_len below.old) (vec_capacity below.old) }
     requires below { AreAtCalls (callers below.old.items) }
@@ -103,6 +105,6 @@ pub fn answer(
         Outcome::Ends => *phase = Phase::Ended,
         Outcome::Raises(kind) => *phase = Phase::Raised(kind),
         Outcome::StartsWaiting(lock, count) => *phase = Phase::Waiting { lock, count },
-        Outcome::Completes(brought) => complete(completion, brought, phase, top, below),
+        Outcome::Completes(brought) => complete(completion, brought, phase, top, below, spares),
     }
 }

@@ -57,6 +57,7 @@ fn call(
     lock: Option<Lock>,
     top: &mut Frame,
     below: &mut Vec<Frame>,
+    spares: &mut Vec<Frame>,
 ) -> Result<(), NoMemory>
     requires place { top.old.place < 2 ^ 31 }
     requires below { AreAtCalls (callers below.old.items) }
@@ -68,7 +69,14 @@ fn call(
     let Ok(()) = below.reserve(1) else {
         return Err(NoMemory);
     };
-    let callee = first_frame(alloc, program, method, top.stack.arguments(taken), lock)?;
+    let callee = first_frame(
+        alloc,
+        program,
+        method,
+        top.stack.arguments(taken),
+        lock,
+        spares,
+    )?;
     enter(callee, taken, top, below);
     Ok(())
 }
@@ -81,6 +89,7 @@ fn follow(
     acted: Acted,
     top: &mut Frame,
     below: &mut Vec<Frame>,
+    spares: &mut Vec<Frame>,
 ) -> Result<bool, NoMemory>
     requires stands { Stands acted top.old }
     requires below { AreAtCalls (callers below.old.items) }
@@ -98,7 +107,7 @@ fn follow(
             if below.len() >= MOST_FRAMES - 1 {
                 return Ok(false);
             }
-            call(alloc, program, method, lock, top, below)?;
+            call(alloc, program, method, lock, top, below, spares)?;
             Ok(true)
         }
         Acted::Gives(given) => {
@@ -106,7 +115,7 @@ fn follow(
                 return Ok(false);
             }
             reserve_caller(below)?;
-            Ok(give_back(given, top, below))
+            Ok(give_back(given, top, below, spares))
         }
         _ => Ok(false),
     }
@@ -158,6 +167,7 @@ pub fn settle(
     program: &Program,
     top: &mut Frame,
     below: &mut Vec<Frame>,
+    spares: &mut Vec<Frame>,
     steps: &mut u32,
 ) -> Result<Acted, NoMemory>
     requires small { IsSmall program.now }
@@ -175,7 +185,7 @@ pub fn settle(
         if *steps == MOST_LOCAL_STEPS {
             return look(alloc, program, top);
         }
-        if !follow(alloc, program, acted, top, below)? {
+        if !follow(alloc, program, acted, top, below, spares)? {
             return Ok(acted);
         }
         *steps += 1;
