@@ -44,7 +44,7 @@ impl Stack {
         ensures values { self.new.values ≡ self.old.values }
         ensures room { OnOk result (length self.new.values + 2 ≤ self.new.room) }
     {
-        if self.values.capacity().saturating_sub(self.values.len()) >= 2 {
+        if self.values.capacity() - self.values.len() >= 2 {
             return Ok(());
         }
         match self.values.reserve(2) {
